@@ -6,7 +6,7 @@ use mathlib.Core.Bool.{Bool, false}
 use Prim.Native.Nat.{ℕ, zero, suc, min, _+_, _-_, _*_, _/_, _%_, _<_, _≤_}
 use native.Mathlib.Omega.{arith}
 use native.Mathlib.Decide.{decLt, ℕ-discrete}
-use lib.Bits.{bitAnd, bitXor, xor-self, and-zero-l, and-zero-r}
+use lib.Bits.{bitAnd}
 use lib.ListN.{length, getD, set, take, drop, replicate, length-set, length-take, length-drop, length-append}
 use lib.Seq.{paste}
 use Rattle.std.proofs.shelf.Bits.{and-mod, and-le-l}
@@ -14,6 +14,7 @@ use Rattle.std.proofs.shelf.Lists.{getD-set-other, getD-set-same, getD-past, ex
 use Rattle.flash.specs.Chip.{Chip, Torn, Mixed, page, blank, cleared, programmed, erased}
 use Rattle.flash.specs.Image.{image-blocks, cut, octets, image-chip}
 use Rattle.flash.specs.Cuts.{length-cut, cut-byte, cut-wide, octet-at, length-octets, image-fits, image-long, image-byte, image-wide, past-zero}
+use Rattle.flash.proofs.Chips.{mixed-byte}
 use Rattle.flash.proofs.Clearing.{cleared-at, length-cleared}
 use Rattle.flash.proofs.Erasing.{erased-long, erased-below, erased-inside, erased-above}
 use Rattle.flash.proofs.Pasting.{length-paste, paste-before, paste-within, paste-past, paste-short}
@@ -150,10 +151,6 @@ module _ (xs : List ℕ) (b : ℕ) (on : Bool) (h : b < image-blocks xs) where
   image-erased =
       image-is xs wiped (erased chip b .pages) on (length-paste xs ones (4096 * b) 4096 (omega arith) (omega (arith, ones-long)))
         (erased-long chip b block-within ∙ image-long xs on) wide-page wiped-byte
-
-mixed-byte : (s o f : ℕ) → (s ≡ o) ⊎ (s ≡ f) → bitAnd (bitXor s o) (bitXor s f) ≡ 0
-mixed-byte s o f (inl e) = ap (λ x. bitAnd x (bitXor s f)) (ap (λ x. bitXor x o) e ∙ xor-self o) ∙ and-zero-l (bitXor s f)
-mixed-byte s o f (inr e) = ap (bitAnd (bitXor s o)) (ap (λ x. bitXor x f) e ∙ xor-self f) ∙ and-zero-r (bitXor s o)
 
 -- bytes put in short of their end tear the chip
 module _ (xs s : List ℕ) (at n : ℕ) (on up : Bool) (within : at + length s ≤ length xs) (enough : n ≤ length s) where

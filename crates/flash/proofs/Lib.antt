@@ -1,6 +1,9 @@
+pub mod Chips
 pub mod Clearing
 pub mod Erasing
 pub mod Fusing
 pub mod Images
+pub mod Joining
 pub mod ImageWrites
 pub mod Pasting
+pub mod Sides

@@ -4,4 +4,6 @@ pub mod Faults
 pub mod Fuses
 pub mod Image
 pub mod ImageCalls
+pub mod Joined
+pub mod Joins
 pub mod Says

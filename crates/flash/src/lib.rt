@@ -7,6 +7,7 @@ mod dump;
 mod fault;
 mod fuse;
 mod image;
+mod joined;
 mod traits;
 
 pub use dump::DumpFlash;
@@ -16,6 +17,9 @@ pub use fuse::Fuse;
 pub use image::ImageFlash;
 pub use image::ImageReadFlash;
 pub use image::ImageWriteFlash;
+pub use joined::JoinedFlash;
+pub use joined::JoinedReadFlash;
+pub use joined::JoinedWriteFlash;
 pub use traits::Flash;
 pub use traits::MOST_BLOCKS;
 pub use traits::PAGE_BYTES;
