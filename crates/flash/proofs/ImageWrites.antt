@@ -72,7 +72,7 @@ module _ (xs w : List ℕ) (p : ℕ) (on : Bool) (fuse : Fuse) (h : p < 16 * ima
       (up, in-pages, ap (λ n. image-chip (paste xs (256 * p) final n) on) (reach-whole fuse 256 e) ∙ image-programmed xs w p on h wide)
   says true e =
       let whole : image-chip (paste xs (256 * p) final (length final)) on ≡ programmed (image-chip xs on) p w =
-          ap (λ n. image-chip (paste xs (256 * p) final n) on) long ∙ image-programmed xs w p on h wide in
+      ap (λ n. image-chip (paste xs (256 * p) final n) on) long ∙ image-programmed xs w p on h wide in
       let torn = image-torn xs final (256 * p) (reach-of fuse 256) on on (omega (arith, long)) (omega (arith, reach-within fuse 256, long)) in
       (up, in-pages, refl, subst (λ f. Torn (image-chip xs on) f (image-chip left false)) whole torn)
 
@@ -82,10 +82,10 @@ module _ (xs w : List ℕ) (p : ℕ) (on : Bool) (fuse : Fuse) (h : p < 16 * ima
       record {
         answer = sym (answer-is xs final (256 * p) fuse on (ltb p (16 * image-blocks xs)) (Program p) up inside);
         after =
-          ap (λ n. image (paste xs (256 * p) final (reach-of fuse n)) (cond (blows-at fuse) false on) (burnt-of fuse)) (sym long)
-          ∙ put-is xs final (256 * p) fuse on (ltb p (16 * image-blocks xs)) (Program p) up inside;
+            ap (λ n. image (paste xs (256 * p) final (reach-of fuse n)) (cond (blows-at fuse) false on) (burnt-of fuse)) (sym long)
+            ∙ put-is xs final (256 * p) fuse on (ltb p (16 * image-blocks xs)) (Program p) up inside;
         unused =
-          drop-paste xs final (256 * p) (reach-of fuse 256) (omega (arith, reach-within fuse 256)) (omega (arith, reach-within fuse 256, long))
+            drop-paste xs final (256 * p) (reach-of fuse 256) (omega (arith, reach-within fuse 256)) (omega (arith, reach-within fuse 256, long))
             (4096 * image-blocks xs) (omega (arith, reach-within fuse 256));
       }
 
@@ -96,16 +96,16 @@ module _ (xs w : List ℕ) (p : ℕ) (on : Bool) (fuse : Fuse) (h : p < 16 * ima
       → Programs (image-chip xs on) p w r (image-chip ys off) × ProgramsImage (image xs on fuse) p w r (image ys off burnt)
   program-ends ys part at n off burnt r ea en epart eys er eoff eburnt =
       let here : part ≡ take (reach-of fuse 256) final =
-          epart ∙ ap (λ i. cleared (take i (drop at xs)) w) (let e : (at + n) - at ≡ reach-of fuse 256 = omega arith in e) ∙ ap (λ i. cleared (take (reach-of fuse 256) (drop i xs)) w) ea
-          ∙ sym (take-cleared (reach-of fuse 256) (take 256 (drop (256 * p) xs)) w ∙ ap (λ zs. cleared zs w) (take-take (reach-of fuse 256) 256 (drop (256 * p) xs) (reach-within fuse 256))) in
+      epart ∙ ap (λ i. cleared (take i (drop at xs)) w) (let e : (at + n) - at ≡ reach-of fuse 256 = omega arith in e) ∙ ap (λ i. cleared (take (reach-of fuse 256) (drop i xs)) w) ea
+      ∙ sym (take-cleared (reach-of fuse 256) (take 256 (drop (256 * p) xs)) w ∙ ap (λ zs. cleared zs w) (take-take (reach-of fuse 256) 256 (drop (256 * p) xs) (reach-within fuse 256))) in
       let all : ys ≡ left =
-          eys ∙ ap (λ i. putMid i ((i + n) - i) xs part) ea ∙ ap (λ i. putMid (256 * p) ((256 * p + i) - 256 * p) xs part) en
-          ∙ written xs final part (256 * p) (reach-of fuse 256) here (omega (arith, reach-within fuse 256, long)) in
+      eys ∙ ap (λ i. putMid i ((i + n) - i) xs part) ea ∙ ap (λ i. putMid (256 * p) ((256 * p + i) - 256 * p) xs part) en
+      ∙ written xs final part (256 * p) (reach-of fuse 256) here (omega (arith, reach-within fuse 256, long)) in
       let Whole : Answer → List ℕ → Bool → Fuse → Type 0 = λ r ys off burnt.
-          Programs (image-chip xs on) p w r (image-chip ys off) × ProgramsImage (image xs on fuse) p w r (image ys off burnt) in
+      Programs (image-chip xs on) p w r (image-chip ys off) × ProgramsImage (image xs on fuse) p w r (image ys off burnt) in
       subst (λ r. Whole r ys off burnt) (sym er) (subst (λ ys. Whole (cond (blows-at fuse) (Err (Program p)) (Ok tt)) ys off burnt) (sym all)
-        (subst (λ off. Whole (cond (blows-at fuse) (Err (Program p)) (Ok tt)) left off burnt) (sym eoff)
-          (subst (λ burnt. Whole (cond (blows-at fuse) (Err (Program p)) (Ok tt)) left (cond (blows-at fuse) false on) burnt) (sym eburnt) (says (blows-at fuse) refl, exact))))
+      (subst (λ off. Whole (cond (blows-at fuse) (Err (Program p)) (Ok tt)) left off burnt) (sym eoff)
+      (subst (λ burnt. Whole (cond (blows-at fuse) (Err (Program p)) (Ok tt)) left (cond (blows-at fuse) false on) burnt) (sym eburnt) (says (blows-at fuse) refl, exact))))
 
 module _ (xs : List ℕ) (b : ℕ) (on : Bool) (fuse : Fuse) (h : b < image-blocks xs) (up : on ≡ true) where
   abbrev ones : List ℕ
@@ -121,7 +121,7 @@ module _ (xs : List ℕ) (b : ℕ) (on : Bool) (fuse : Fuse) (h : b < image-bloc
   erase-says false e = (up, h, ap (λ n. image-chip (paste xs (4096 * b) ones n) on) (reach-whole fuse 4096 e) ∙ image-erased xs b on h)
   erase-says true e =
       let whole : image-chip (paste xs (4096 * b) ones (length ones)) on ≡ erased (image-chip xs on) b =
-          ap (λ n. image-chip (paste xs (4096 * b) ones n) on) ones-long ∙ image-erased xs b on h in
+      ap (λ n. image-chip (paste xs (4096 * b) ones n) on) ones-long ∙ image-erased xs b on h in
       let torn = image-torn xs ones (4096 * b) (reach-of fuse 4096) on on (omega (arith, ones-long)) (omega (arith, reach-within fuse 4096, ones-long)) in
       (up, h, refl, subst (λ f. Torn (image-chip xs on) f (image-chip wiped false)) whole torn)
 
@@ -131,10 +131,10 @@ module _ (xs : List ℕ) (b : ℕ) (on : Bool) (fuse : Fuse) (h : b < image-bloc
       record {
         answer = sym (answer-is xs ones (4096 * b) fuse on (ltb b (image-blocks xs)) (Erase b) up inside);
         after =
-          ap (λ n. image (paste xs (4096 * b) ones (reach-of fuse n)) (cond (blows-at fuse) false on) (burnt-of fuse)) (sym ones-long)
-          ∙ put-is xs ones (4096 * b) fuse on (ltb b (image-blocks xs)) (Erase b) up inside;
+            ap (λ n. image (paste xs (4096 * b) ones (reach-of fuse n)) (cond (blows-at fuse) false on) (burnt-of fuse)) (sym ones-long)
+            ∙ put-is xs ones (4096 * b) fuse on (ltb b (image-blocks xs)) (Erase b) up inside;
         unused =
-          drop-paste xs ones (4096 * b) (reach-of fuse 4096) (omega (arith, reach-within fuse 4096)) (omega (arith, reach-within fuse 4096, ones-long))
+            drop-paste xs ones (4096 * b) (reach-of fuse 4096) (omega (arith, reach-within fuse 4096)) (omega (arith, reach-within fuse 4096, ones-long))
             (4096 * image-blocks xs) (omega (arith, reach-within fuse 4096));
       }
 
@@ -144,12 +144,12 @@ module _ (xs : List ℕ) (b : ℕ) (on : Bool) (fuse : Fuse) (h : b < image-bloc
       → Erases (image-chip xs on) b r (image-chip ys off) × ErasesImage (image xs on fuse) b r (image ys off burnt)
   erase-ends ys part at n off burnt r ea en epart eys er eoff eburnt =
       let here : part ≡ take (reach-of fuse 4096) ones =
-          epart ∙ ap (λ i. replicate i 255) en ∙ sym (take-replicate (reach-of fuse 4096) 4096 255 (reach-within fuse 4096)) in
+      epart ∙ ap (λ i. replicate i 255) en ∙ sym (take-replicate (reach-of fuse 4096) 4096 255 (reach-within fuse 4096)) in
       let all : ys ≡ wiped =
-          eys ∙ ap (λ i. putMid i ((i + n) - i) xs part) ea ∙ ap (λ i. putMid (4096 * b) ((4096 * b + i) - 4096 * b) xs part) en
-          ∙ written xs ones part (4096 * b) (reach-of fuse 4096) here (omega (arith, reach-within fuse 4096, ones-long)) in
+      eys ∙ ap (λ i. putMid i ((i + n) - i) xs part) ea ∙ ap (λ i. putMid (4096 * b) ((4096 * b + i) - 4096 * b) xs part) en
+      ∙ written xs ones part (4096 * b) (reach-of fuse 4096) here (omega (arith, reach-within fuse 4096, ones-long)) in
       let Whole : Answer → List ℕ → Bool → Fuse → Type 0 = λ r ys off burnt.
-          Erases (image-chip xs on) b r (image-chip ys off) × ErasesImage (image xs on fuse) b r (image ys off burnt) in
+      Erases (image-chip xs on) b r (image-chip ys off) × ErasesImage (image xs on fuse) b r (image ys off burnt) in
       subst (λ r. Whole r ys off burnt) (sym er) (subst (λ ys. Whole (cond (blows-at fuse) (Err (Erase b)) (Ok tt)) ys off burnt) (sym all)
-        (subst (λ off. Whole (cond (blows-at fuse) (Err (Erase b)) (Ok tt)) wiped off burnt) (sym eoff)
-          (subst (λ burnt. Whole (cond (blows-at fuse) (Err (Erase b)) (Ok tt)) wiped (cond (blows-at fuse) false on) burnt) (sym eburnt) (erase-says (blows-at fuse) refl, erase-exact))))
+      (subst (λ off. Whole (cond (blows-at fuse) (Err (Erase b)) (Ok tt)) wiped off burnt) (sym eoff)
+      (subst (λ burnt. Whole (cond (blows-at fuse) (Err (Erase b)) (Ok tt)) wiped (cond (blows-at fuse) false on) burnt) (sym eburnt) (erase-says (blows-at fuse) refl, erase-exact))))

@@ -24,9 +24,9 @@ cut-ext : (n : ℕ) (xs : List ℕ) (ps : List (List ℕ)) → 256 * n ≤ lengt
     → ((p k : ℕ) → p < n → k < 256 → getD (getD ps p []) k 0 ≡ getD xs (256 * p + k) 0) → cut n xs ≡ ps
 cut-ext n xs ps fits long wide same =
     ext-getD [] (cut n xs) ps (length-cut n xs ∙ sym long)
-      (λ p h. let l : p < n = omega (arith, h, length-cut n xs) in
-        ext-getD 0 (getD (cut n xs) p []) (getD ps p []) (cut-wide n p xs l fits ∙ sym (wide p l))
-          (λ k g. let m : k < 256 = omega (arith, g, cut-wide n p xs l fits) in cut-byte n p k xs l m ∙ sym (same p k l m)))
+    (λ p h. let l : p < n = omega (arith, h, length-cut n xs) in
+    ext-getD 0 (getD (cut n xs) p []) (getD ps p []) (cut-wide n p xs l fits ∙ sym (wide p l))
+    (λ k g. let m : k < 256 = omega (arith, g, cut-wide n p xs l fits) in cut-byte n p k xs l m ∙ sym (same p k l m)))
 
 abbrev chip-of : ℕ → List (List ℕ) → Bool → Chip
 chip-of m ps on = record { per-block = 16; blocks = m; pages = ps; on = on }
@@ -39,8 +39,8 @@ image-is : (xs ys : List ℕ) (ps : List (List ℕ)) (on : Bool) → length ys �
 image-is xs ys ps on long count wide same =
     ap (λ l. chip-of (min 1000 (l / 4096)) (cut (16 * min 1000 (l / 4096)) (octets ys)) on) long
     ∙ ap (λ qs. chip-of (image-blocks xs) qs on)
-        (cut-ext (16 * image-blocks xs) (octets ys) ps (omega (arith, image-fits xs, length-octets xs, length-octets ys, long)) count wide
-          (λ p k h l. same p k h l ∙ sym (octet-at ys (256 * p + k))))
+    (cut-ext (16 * image-blocks xs) (octets ys) ps (omega (arith, image-fits xs, length-octets xs, length-octets ys, long)) count wide
+    (λ p k h l. same p k h l ∙ sym (octet-at ys (256 * p + k))))
 
 -- a byte cleared by any number is a byte
 and-octet : (a g : ℕ) → bitAnd (a % 256) g ≡ bitAnd a g % 256
@@ -83,21 +83,24 @@ module _ (xs w : List ℕ) (p : ℕ) (on : Bool) (h : p < 16 * image-blocks xs) 
   other-byte : (q k : ℕ) → q ≢ p → q < 16 * image-blocks xs → k < 256 → getD (page (image-chip xs on) q) k 0 ≡ getD after (256 * q + k) 0 % 256
   other-byte q k ne l m =
       image-byte xs on q k l m ∙ ap (λ x. x % 256) (sym (elim (decLt q p) [
-          yes lt ↦ paste-before xs (cleared old w) (256 * p) 256 (omega arith) (omega (arith, final-long)) (256 * q + k) (omega arith)
-        | no ge ↦ paste-past xs (cleared old w) (256 * p) 256 (omega arith) (omega (arith, final-long)) (256 * q + k) (let gt : p < q = omega arith in omega arith) ]))
+        | yes lt ↦ paste-before xs (cleared old w) (256 * p) 256 (omega arith) (omega (arith, final-long)) (256 * q + k) (omega arith)
+        | no ge ↦ paste-past xs (cleared old w) (256 * p) 256 (omega arith) (omega (arith, final-long)) (256 * q + k) (let gt : p < q = omega arith in omega arith)
+      ]))
 
   -- the page put into the bytes is the page programmed
   pub image-programmed : image-chip after on ≡ programmed (image-chip xs on) p w
   image-programmed =
       image-is xs after (set pages p (cleared (page (image-chip xs on) p) w)) on
-        (length-paste xs (cleared old w) (256 * p) 256 (omega arith) (omega (arith, final-long)))
-        (length-set pages p (cleared (page (image-chip xs on) p) w) ∙ image-long xs on)
-        (λ q l. elim (ℕ-discrete q p) [
-            yes e ↦ ap (λ i. length (getD (set pages p (cleared (page (image-chip xs on) p) w)) i [])) e ∙ ap length (here) ∙ new-long
-          | no ne ↦ (let n : q ≢ p = ne in ap length (getD-set-other pages p q (cleared (page (image-chip xs on) p) w) [] n) ∙ image-wide xs on q l) ])
-        (λ q k l m. elim (ℕ-discrete q p) [
-            yes e ↦ ap (λ i. getD (getD (set pages p (cleared (page (image-chip xs on) p) w)) i []) k 0) e ∙ ap (λ ys. getD ys k 0) here ∙ new-byte k m ∙ ap (λ i. getD after (256 * i + k) 0 % 256) (sym e)
-          | no ne ↦ (let n : q ≢ p = ne in ap (λ ys. getD ys k 0) (getD-set-other pages p q (cleared (page (image-chip xs on) p) w) [] n) ∙ other-byte q k n l m) ])
+      (length-paste xs (cleared old w) (256 * p) 256 (omega arith) (omega (arith, final-long)))
+      (length-set pages p (cleared (page (image-chip xs on) p) w) ∙ image-long xs on)
+      (λ q l. elim (ℕ-discrete q p) [
+        | yes e ↦ ap (λ i. length (getD (set pages p (cleared (page (image-chip xs on) p) w)) i [])) e ∙ ap length (here) ∙ new-long
+        | no ne ↦ (let n : q ≢ p = ne in ap length (getD-set-other pages p q (cleared (page (image-chip xs on) p) w) [] n) ∙ image-wide xs on q l)
+      ])
+      (λ q k l m. elim (ℕ-discrete q p) [
+        | yes e ↦ ap (λ i. getD (getD (set pages p (cleared (page (image-chip xs on) p) w)) i []) k 0) e ∙ ap (λ ys. getD ys k 0) here ∙ new-byte k m ∙ ap (λ i. getD after (256 * i + k) 0 % 256) (sym e)
+        | no ne ↦ (let n : q ≢ p = ne in ap (λ ys. getD ys k 0) (getD-set-other pages p q (cleared (page (image-chip xs on) p) w) [] n) ∙ other-byte q k n l m)
+      ])
     where
       here : getD (set pages p (cleared (page (image-chip xs on) p) w)) p [] ≡ cleared (page (image-chip xs on) p) w
       here = getD-set-same pages p (cleared (page (image-chip xs on) p) w) [] (omega (arith, image-long xs on))
@@ -123,34 +126,37 @@ module _ (xs : List ℕ) (b : ℕ) (on : Bool) (h : b < image-blocks xs) where
   part : (q : ℕ) → (q < 16 * b) ⊎ (((16 * b ≤ q) × (q < 16 * b + 16)) ⊎ (16 * b + 16 ≤ q))
   part q =
       elim (decLt q (16 * b)) [
-        yes l ↦ inl l
-      | no g ↦ elim (decLt q (16 * b + 16)) [ yes l ↦ inr (inl (omega arith, l)) | no g2 ↦ inr (inr (omega arith)) ] ]
+        | yes l ↦ inl l
+        | no g ↦ elim (decLt q (16 * b + 16)) [ yes l ↦ inr (inl (omega arith, l)) | no g2 ↦ inr (inr (omega arith)) ]
+      ]
 
   wide-page : (q : ℕ) → q < 16 * image-blocks xs → length (page (erased chip b) q) ≡ 256
   wide-page q l =
       elim (part q) [
-        inl below ↦ ap length (erased-below chip b block-within q below) ∙ image-wide xs on q l
-      | inr (inl inside) ↦ ap length (erased-inside chip b block-within q (inside .0) (inside .1)) ∙ length-replicate {A = ℕ} 256 255
-      | inr (inr above) ↦ ap length (erased-above chip b block-within q above) ∙ image-wide xs on q l ]
+        | inl below ↦ ap length (erased-below chip b block-within q below) ∙ image-wide xs on q l
+        | inr (inl inside) ↦ ap length (erased-inside chip b block-within q (inside .0) (inside .1)) ∙ length-replicate {A = ℕ} 256 255
+        | inr (inr above) ↦ ap length (erased-above chip b block-within q above) ∙ image-wide xs on q l
+      ]
 
   wiped-byte : (q k : ℕ) → q < 16 * image-blocks xs → k < 256 → getD (page (erased chip b) q) k 0 ≡ getD wiped (256 * q + k) 0 % 256
   wiped-byte q k l m =
       elim (part q) [
-        inl below ↦
-          ap (λ ys. getD ys k 0) (erased-below chip b block-within q below) ∙ image-byte xs on q k l m
-          ∙ ap (λ x. x % 256) (sym (paste-before xs ones (4096 * b) 4096 (omega arith) (omega (arith, ones-long)) (256 * q + k) (omega arith)))
-      | inr (inl inside) ↦
-          ap (λ ys. getD ys k 0) (erased-inside chip b block-within q (inside .0) (inside .1)) ∙ getD-replicate 256 k 255 0 m
-          ∙ ap (λ x. x % 256) (sym (paste-within xs ones (4096 * b) 4096 (omega arith) (omega (arith, ones-long)) (256 * q + k) (omega (arith, inside .0)) (omega (arith, inside .1))
-              ∙ getD-replicate 4096 ((256 * q + k) - 4096 * b) 255 0 (omega (arith, inside .0, inside .1))))
-      | inr (inr above) ↦
-          ap (λ ys. getD ys k 0) (erased-above chip b block-within q above) ∙ image-byte xs on q k l m
-          ∙ ap (λ x. x % 256) (sym (paste-past xs ones (4096 * b) 4096 (omega arith) (omega (arith, ones-long)) (256 * q + k) (omega arith))) ]
+        | inl below ↦
+            ap (λ ys. getD ys k 0) (erased-below chip b block-within q below) ∙ image-byte xs on q k l m
+            ∙ ap (λ x. x % 256) (sym (paste-before xs ones (4096 * b) 4096 (omega arith) (omega (arith, ones-long)) (256 * q + k) (omega arith)))
+        | inr (inl inside) ↦
+            ap (λ ys. getD ys k 0) (erased-inside chip b block-within q (inside .0) (inside .1)) ∙ getD-replicate 256 k 255 0 m
+            ∙ ap (λ x. x % 256) (sym (paste-within xs ones (4096 * b) 4096 (omega arith) (omega (arith, ones-long)) (256 * q + k) (omega (arith, inside .0)) (omega (arith, inside .1))
+            ∙ getD-replicate 4096 ((256 * q + k) - 4096 * b) 255 0 (omega (arith, inside .0, inside .1))))
+        | inr (inr above) ↦
+            ap (λ ys. getD ys k 0) (erased-above chip b block-within q above) ∙ image-byte xs on q k l m
+            ∙ ap (λ x. x % 256) (sym (paste-past xs ones (4096 * b) 4096 (omega arith) (omega (arith, ones-long)) (256 * q + k) (omega arith)))
+      ]
 
   pub image-erased : image-chip wiped on ≡ erased chip b
   image-erased =
       image-is xs wiped (erased chip b .pages) on (length-paste xs ones (4096 * b) 4096 (omega arith) (omega (arith, ones-long)))
-        (erased-long chip b block-within ∙ image-long xs on) wide-page wiped-byte
+      (erased-long chip b block-within ∙ image-long xs on) wide-page wiped-byte
 
 -- bytes put in short of their end tear the chip
 module _ (xs s : List ℕ) (at n : ℕ) (on up : Bool) (within : at + length s ≤ length xs) (enough : n ≤ length s) where
@@ -174,22 +180,26 @@ module _ (xs s : List ℕ) (at n : ℕ) (on up : Bool) (within : at + length s �
       let sb = same-blocks short short-long in
       let fb = same-blocks full full-long in
       elim (decLt p (16 * image-blocks xs)) [
-        yes h ↦ elim (decLt k 256) [
-            yes l ↦ (let es = image-byte short false p k (omega (arith, sb)) l in
+        | yes h ↦ elim (decLt k 256) [
+          | yes l ↦ (let es = image-byte short false p k (omega (arith, sb)) l in
               let ex = image-byte xs on p k h l in
               let ef = image-byte full up p k (omega (arith, fb)) l in
               elim (paste-short xs s at n (256 * p + k) within enough) [
-                inl e ↦ inl (es ∙ ap (λ x. x % 256) e ∙ sym ex)
-              | inr e ↦ inr (es ∙ ap (λ x. x % 256) e ∙ sym ef) ])
-          | no g ↦ inl (getD-past (page (image-chip short false) p) k 0 (omega (arith, image-wide short false p (omega (arith, sb)))) ∙ sym (getD-past (page (image-chip xs on) p) k 0 (omega (arith, image-wide xs on p h)))) ]
-      | no g ↦ inl (past-zero (image-chip short false .pages) p k (omega (arith, image-long short false, sb)) ∙ sym (past-zero (image-chip xs on .pages) p k (omega (arith, image-long xs on)))) ]
+                | inl e ↦ inl (es ∙ ap (λ x. x % 256) e ∙ sym ex)
+                | inr e ↦ inr (es ∙ ap (λ x. x % 256) e ∙ sym ef)
+              ])
+          | no g ↦ inl (getD-past (page (image-chip short false) p) k 0 (omega (arith, image-wide short false p (omega (arith, sb)))) ∙ sym (getD-past (page (image-chip xs on) p) k 0 (omega (arith, image-wide xs on p h))))
+        ]
+        | no g ↦ inl (past-zero (image-chip short false .pages) p k (omega (arith, image-long short false, sb)) ∙ sym (past-zero (image-chip xs on .pages) p k (omega (arith, image-long xs on))))
+      ]
 
   page-long : (p : ℕ) → length (page (image-chip short false) p) ≡ length (page (image-chip xs on) p)
   page-long p =
       let sb = same-blocks short short-long in
       elim (decLt p (16 * image-blocks xs)) [
-        yes h ↦ image-wide short false p (omega (arith, sb)) ∙ sym (image-wide xs on p h)
-      | no g ↦ ap length (getD-past (image-chip short false .pages) p [] (omega (arith, image-long short false, sb))) ∙ sym (ap length (getD-past (image-chip xs on .pages) p [] (omega (arith, image-long xs on)))) ]
+        | yes h ↦ image-wide short false p (omega (arith, sb)) ∙ sym (image-wide xs on p h)
+        | no g ↦ ap length (getD-past (image-chip short false .pages) p [] (omega (arith, image-long short false, sb))) ∙ sym (ap length (getD-past (image-chip xs on .pages) p [] (omega (arith, image-long xs on))))
+      ]
 
   pub image-torn : Torn (image-chip xs on) (image-chip full up) (image-chip short false)
   image-torn =

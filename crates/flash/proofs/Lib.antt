@@ -3,7 +3,8 @@ pub mod Clearing
 pub mod Erasing
 pub mod Fusing
 pub mod Images
-pub mod Joining
 pub mod ImageWrites
+pub mod Joining
 pub mod Pasting
+pub mod Refusals
 pub mod Sides

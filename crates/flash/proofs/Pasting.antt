@@ -54,7 +54,9 @@ pub paste-short : (d s : List ℕ) (at n j : ℕ) → at + length s ≤ length d
     → (getD (paste d at s n) j 0 ≡ getD d j 0) ⊎ (getD (paste d at s n) j 0 ≡ getD (paste d at s (length s)) j 0)
 paste-short d s at n j within enough =
     elim (decLt j at) [
-      yes h ↦ inl (paste-before d s at n (omega arith) enough j h)
-    | no g ↦ elim (decLt j (at + n)) [
-        yes h ↦ inr (paste-within d s at n (omega arith) enough j (omega arith) h ∙ sym (paste-within d s at (length s) within (omega arith) j (omega arith) (omega arith)))
-      | no g2 ↦ inl (paste-past d s at n (omega arith) enough j (omega arith)) ] ]
+      | yes h ↦ inl (paste-before d s at n (omega arith) enough j h)
+      | no g ↦ elim (decLt j (at + n)) [
+        | yes h ↦ inr (paste-within d s at n (omega arith) enough j (omega arith) h ∙ sym (paste-within d s at (length s) within (omega arith) j (omega arith) (omega arith)))
+        | no g2 ↦ inl (paste-past d s at n (omega arith) enough j (omega arith))
+      ]
+    ]

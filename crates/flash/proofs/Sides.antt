@@ -63,13 +63,14 @@ module _ (n : ℕ) (a b : Chip) (sa : Shaped n a) (sb : Shaped n b) where
       let blocks : joined-blocks x b ≡ joined-blocks a b = ap (λ i. min 1000 (i + b .blocks)) em in
       let long : length (joined x b .pages) ≡ total = joined-long n x b sx sb ∙ ap (λ i. n * i) blocks in
       chip-ext (joined x b) f (en ∙ sym fn) (blocks ∙ sym fm) (sym fon) (long ∙ sym (fl ∙ joined-long n a b sa sb))
-        (λ q h. elim (decLt q m) [
-            yes l ↦ look-first n x b sx sb q (omega (arith, l, el)) ∙ sym (here q l)
-          | no ge ↦ (let g : m ≤ q = omega arith in
-              let lx : q < n * joined-blocks x b = omega (arith, h, joined-long n x b sx sb) in
-              let la : q < total = omega (arith, h, long) in
-              look-second n x b sx sb q (omega (arith, g, el)) lx ∙ ap (λ i. page b (q - i)) el
-              ∙ sym (rest q g ∙ look-second n a b sa sb q g la)) ])
+      (λ q h. elim (decLt q m) [
+        | yes l ↦ look-first n x b sx sb q (omega (arith, l, el)) ∙ sym (here q l)
+        | no ge ↦ (let g : m ≤ q = omega arith in
+            let lx : q < n * joined-blocks x b = omega (arith, h, joined-long n x b sx sb) in
+            let la : q < total = omega (arith, h, long) in
+            look-second n x b sx sb q (omega (arith, g, el)) lx ∙ ap (λ i. page b (q - i)) el
+            ∙ sym (rest q g ∙ look-second n a b sa sb q g la))
+      ])
 
   -- the joined chip becomes f where the second becomes y
   pub second-becomes : (y f : Chip) → Shaped n y → y .blocks ≡ b .blocks
@@ -80,35 +81,38 @@ module _ (n : ℕ) (a b : Chip) (sa : Shaped n a) (sb : Shaped n b) where
       let blocks : joined-blocks a y ≡ joined-blocks a b = ap (λ i. min 1000 (a .blocks + i)) em in
       let long : length (joined a y .pages) ≡ total = joined-long n a y sa sy ∙ ap (λ i. n * i) blocks in
       chip-ext (joined a y) f (sym fn) (blocks ∙ sym fm) (sym fon) (long ∙ sym (fl ∙ joined-long n a b sa sb))
-        (λ q h. elim (decLt q m) [
-            yes l ↦ look-first n a y sa sy q l ∙ sym (rest q l ∙ look-first n a b sa sb q l)
-          | no ge ↦ (let g : m ≤ q = omega arith in
-              let ly : q < n * joined-blocks a y = omega (arith, h, joined-long n a y sa sy) in
-              look-second n a y sa sy q g ly ∙ sym (here q g (omega (arith, h, long)))) ])
+      (λ q h. elim (decLt q m) [
+        | yes l ↦ look-first n a y sa sy q l ∙ sym (rest q l ∙ look-first n a b sa sb q l)
+        | no ge ↦ (let g : m ≤ q = omega arith in
+            let ly : q < n * joined-blocks a y = omega (arith, h, joined-long n a y sa sy) in
+            look-second n a y sa sy q g ly ∙ sym (here q g (omega (arith, h, long))))
+      ])
 
   pub program-first : (p : ℕ) (w : List ℕ) → p < length (a .pages) → joined (programmed a p w) b ≡ programmed (joined a b) p w
   program-first p w h =
       let pj : p < length (joined a b .pages) = omega (arith, joined-long n a b sa sb, first-within n a b sa sb, sa .paged) in
       first-becomes (programmed a p w) (programmed (joined a b) p w) (shaped-programmed n a p w sa) refl refl (length-set (a .pages) p (cleared (page a p) w))
-        refl refl refl (length-set (joined a b .pages) p (cleared (page (joined a b) p) w))
-        (λ q l. elim (ℕ-discrete q p) [
-            yes e ↦ ap (λ i. page (programmed (joined a b) p w) i) e ∙ programmed-here (joined a b) p w pj ∙ ap (λ o. cleared o w) (look-first n a b sa sb p h)
-              ∙ sym (ap (λ i. page (programmed a p w) i) e ∙ programmed-here a p w h)
-          | no ne ↦ programmed-else (joined a b) p q w ne ∙ look-first n a b sa sb q l ∙ sym (programmed-else a p q w ne) ])
-        (λ q g. let ne : q ≢ p = λ e. omega arith in programmed-else (joined a b) p q w ne)
+      refl refl refl (length-set (joined a b .pages) p (cleared (page (joined a b) p) w))
+      (λ q l. elim (ℕ-discrete q p) [
+        | yes e ↦ ap (λ i. page (programmed (joined a b) p w) i) e ∙ programmed-here (joined a b) p w pj ∙ ap (λ o. cleared o w) (look-first n a b sa sb p h)
+            ∙ sym (ap (λ i. page (programmed a p w) i) e ∙ programmed-here a p w h)
+        | no ne ↦ programmed-else (joined a b) p q w ne ∙ look-first n a b sa sb q l ∙ sym (programmed-else a p q w ne)
+      ])
+      (λ q g. let ne : q ≢ p = λ e. omega arith in programmed-else (joined a b) p q w ne)
 
   pub program-second : (p : ℕ) (w : List ℕ) → length (a .pages) ≤ p → p < n * joined-blocks a b → joined a (programmed b (p - length (a .pages)) w) ≡ programmed (joined a b) p w
   program-second p w g h =
       let pj : p < length (joined a b .pages) = omega (arith, joined-long n a b sa sb) in
       let pb = second-within n a b sa sb p g h in
       second-becomes (programmed b (p - m) w) (programmed (joined a b) p w) (shaped-programmed n b (p - m) w sb) refl
-        refl refl refl (length-set (joined a b .pages) p (cleared (page (joined a b) p) w))
-        (λ q l. let ne : q ≢ p = λ e. omega arith in programmed-else (joined a b) p q w ne)
-        (λ q gq hq. elim (ℕ-discrete q p) [
-            yes e ↦ ap (λ i. page (programmed (joined a b) p w) i) e ∙ programmed-here (joined a b) p w pj ∙ ap (λ o. cleared o w) (look-second n a b sa sb p g h)
-              ∙ sym (ap (λ i. page (programmed b (p - m) w) (i - m)) e ∙ programmed-here b (p - m) w pb)
-          | no ne ↦ (let other : (q - m) ≢ (p - m) = λ e. ne (omega arith) in
-              programmed-else (joined a b) p q w ne ∙ look-second n a b sa sb q gq hq ∙ sym (programmed-else b (p - m) (q - m) w other)) ])
+      refl refl refl (length-set (joined a b .pages) p (cleared (page (joined a b) p) w))
+      (λ q l. let ne : q ≢ p = λ e. omega arith in programmed-else (joined a b) p q w ne)
+      (λ q gq hq. elim (ℕ-discrete q p) [
+        | yes e ↦ ap (λ i. page (programmed (joined a b) p w) i) e ∙ programmed-here (joined a b) p w pj ∙ ap (λ o. cleared o w) (look-second n a b sa sb p g h)
+            ∙ sym (ap (λ i. page (programmed b (p - m) w) (i - m)) e ∙ programmed-here b (p - m) w pb)
+        | no ne ↦ (let other : (q - m) ≢ (p - m) = λ e. ne (omega arith) in
+            programmed-else (joined a b) p q w ne ∙ look-second n a b sa sb q gq hq ∙ sym (programmed-else b (p - m) (q - m) w other))
+      ])
 
   joined-within : (k : ℕ) → k < joined-blocks a b → a .per-block * k + a .per-block ≤ length (joined a b .pages)
   joined-within k h =
@@ -122,12 +126,14 @@ module _ (n : ℕ) (a b : Chip) (sa : Shaped n a) (sb : Shaped n b) where
       let wa = block-within n a k sa h in
       let wj = joined-within k jk in
       first-becomes (erased a k) (erased (joined a b) k) (shaped-erased n a k sa h) refl refl (erased-long a k wa) refl refl refl (erased-long (joined a b) k wj)
-        (λ q l. elim (decLt q (a .per-block * k)) [
-            yes lt ↦ erased-below (joined a b) k wj q lt ∙ look-first n a b sa sb q l ∙ sym (erased-below a k wa q lt)
-          | no ge ↦ elim (decLt q (a .per-block * k + a .per-block)) [
-              yes lt ↦ erased-inside (joined a b) k wj q (omega arith) lt ∙ sym (erased-inside a k wa q (omega arith) lt)
-            | no past ↦ erased-above (joined a b) k wj q (omega arith) ∙ look-first n a b sa sb q l ∙ sym (erased-above a k wa q (omega arith)) ] ])
-        (λ q g. erased-above (joined a b) k wj q (omega arith))
+      (λ q l. elim (decLt q (a .per-block * k)) [
+        | yes lt ↦ erased-below (joined a b) k wj q lt ∙ look-first n a b sa sb q l ∙ sym (erased-below a k wa q lt)
+        | no ge ↦ elim (decLt q (a .per-block * k + a .per-block)) [
+          | yes lt ↦ erased-inside (joined a b) k wj q (omega arith) lt ∙ sym (erased-inside a k wa q (omega arith) lt)
+          | no past ↦ erased-above (joined a b) k wj q (omega arith) ∙ look-first n a b sa sb q l ∙ sym (erased-above a k wa q (omega arith))
+        ]
+      ])
+      (λ q g. erased-above (joined a b) k wj q (omega arith))
 
   pub erase-second : (k : ℕ) → a .blocks ≤ k → k < joined-blocks a b → joined a (erased b (k - a .blocks)) ≡ erased (joined a b) k
   erase-second k g h =
@@ -138,15 +144,17 @@ module _ (n : ℕ) (a b : Chip) (sa : Shaped n a) (sb : Shaped n b) where
       let ea : a .per-block * k ≡ n * k = ap (λ i. i * k) (sa .spaced) in
       let eb : b .per-block * (k - a .blocks) ≡ n * (k - a .blocks) = ap (λ i. i * (k - a .blocks)) (sb .spaced) in
       second-becomes (erased b (k - a .blocks)) (erased (joined a b) k) (shaped-erased n b (k - a .blocks) sb kb) refl refl refl refl (erased-long (joined a b) k wj)
-        (λ q l. erased-below (joined a b) k wj q (omega (arith, split, ea, sa .paged)))
-        (λ q gq hq. elim (decLt q (a .per-block * k)) [
-            yes lt ↦ erased-below (joined a b) k wj q lt ∙ look-second n a b sa sb q gq hq
-              ∙ sym (erased-below b (k - a .blocks) wb (q - m) (omega (arith, split, ea, eb, sa .paged)))
-          | no ge ↦ elim (decLt q (a .per-block * k + a .per-block)) [
-              yes lt ↦ erased-inside (joined a b) k wj q (omega arith) lt
-                ∙ sym (erased-inside b (k - a .blocks) wb (q - m) (omega (arith, split, ea, eb, sa .paged)) (omega (arith, split, ea, eb, sa .paged, sa .spaced, sb .spaced)))
-            | no past ↦ erased-above (joined a b) k wj q (omega arith) ∙ look-second n a b sa sb q gq hq
-                ∙ sym (erased-above b (k - a .blocks) wb (q - m) (omega (arith, split, ea, eb, sa .paged, sa .spaced, sb .spaced))) ] ])
+      (λ q l. erased-below (joined a b) k wj q (omega (arith, split, ea, sa .paged)))
+      (λ q gq hq. elim (decLt q (a .per-block * k)) [
+        | yes lt ↦ erased-below (joined a b) k wj q lt ∙ look-second n a b sa sb q gq hq
+            ∙ sym (erased-below b (k - a .blocks) wb (q - m) (omega (arith, split, ea, eb, sa .paged)))
+        | no ge ↦ elim (decLt q (a .per-block * k + a .per-block)) [
+          | yes lt ↦ erased-inside (joined a b) k wj q (omega arith) lt
+              ∙ sym (erased-inside b (k - a .blocks) wb (q - m) (omega (arith, split, ea, eb, sa .paged)) (omega (arith, split, ea, eb, sa .paged, sa .spaced, sb .spaced)))
+          | no past ↦ erased-above (joined a b) k wj q (omega arith) ∙ look-second n a b sa sb q gq hq
+              ∙ sym (erased-above b (k - a .blocks) wb (q - m) (omega (arith, split, ea, eb, sa .paged, sa .spaced, sb .spaced)))
+        ]
+      ])
 
   pub torn-first : (f d : Chip) → Shaped n f → f .blocks ≡ a .blocks → length (f .pages) ≡ length (a .pages) → Torn a f d → Torn (joined a b) (joined f b) (joined d b)
   torn-first f d sf fm fl t =
@@ -158,14 +166,16 @@ module _ (n : ℕ) (a b : Chip) (sa : Shaped n a) (sb : Shaped n b) where
         same = bd;
         long = joined-long n d b sd sb ∙ ap (λ i. n * i) bd ∙ sym (joined-long n a b sa sb);
         mixed = λ q. elim (decLt q m) [
-            yes l ↦ (let ea = look-first n a b sa sb q l in
+          | yes l ↦ (let ea = look-first n a b sa sb q l in
               let ef = look-first n f b sf sb q (omega (arith, l, fl)) in
               let ed = look-first n d b sd sb q (omega (arith, l, t .long)) in
               subst (λ x. Mixed x (page (joined f b) q) (page (joined d b) q)) (sym ea) (subst (λ x. Mixed (page a q) x (page (joined d b) q)) (sym ef) (subst (λ x. Mixed (page a q) (page f q) x) (sym ed) (t .mixed q))))
           | no ge ↦ mixed-same (page (joined a b) q) (page (joined f b) q) (page (joined d b) q) (elim (decLt q total) [
-              yes h ↦ look-second n d b sd sb q (omega (arith, t .long)) (omega (arith, h, ap (λ i. n * i) bd)) ∙ ap (λ i. page b (q - i)) (t .long)
+            | yes h ↦ look-second n d b sd sb q (omega (arith, t .long)) (omega (arith, h, ap (λ i. n * i) bd)) ∙ ap (λ i. page b (q - i)) (t .long)
                 ∙ sym (look-second n a b sa sb q (omega arith) h)
-            | no past ↦ look-past n d b sd sb q (omega (arith, ap (λ i. n * i) bd)) ∙ sym (look-past n a b sa sb q (omega arith)) ]) ];
+            | no past ↦ look-past n d b sd sb q (omega (arith, ap (λ i. n * i) bd)) ∙ sym (look-past n a b sa sb q (omega arith))
+          ])
+        ];
         off = ap (λ o. o && b .on) (t .off);
       }
 
@@ -179,15 +189,17 @@ module _ (n : ℕ) (a b : Chip) (sa : Shaped n a) (sb : Shaped n b) where
         same = bd;
         long = joined-long n a d sa sd ∙ ap (λ i. n * i) bd ∙ sym (joined-long n a b sa sb);
         mixed = λ q. elim (decLt q m) [
-            yes l ↦ mixed-same (page (joined a b) q) (page (joined a f) q) (page (joined a d) q) (look-first n a d sa sd q l ∙ sym (look-first n a b sa sb q l))
+          | yes l ↦ mixed-same (page (joined a b) q) (page (joined a f) q) (page (joined a d) q) (look-first n a d sa sd q l ∙ sym (look-first n a b sa sb q l))
           | no ge ↦ elim (decLt q total) [
-              yes h ↦ (let g : m ≤ q = omega arith in
+            | yes h ↦ (let g : m ≤ q = omega arith in
                 let eb = look-second n a b sa sb q g h in
                 let ef = look-second n a f sa sf q g (omega (arith, h, ap (λ i. n * i) bf)) in
                 let ed = look-second n a d sa sd q g (omega (arith, h, ap (λ i. n * i) bd)) in
                 subst (λ x. Mixed x (page (joined a f) q) (page (joined a d) q)) (sym eb) (subst (λ x. Mixed (page b (q - m)) x (page (joined a d) q)) (sym ef) (subst (λ x. Mixed (page b (q - m)) (page f (q - m)) x) (sym ed) (t .mixed (q - m)))))
             | no past ↦ mixed-same (page (joined a b) q) (page (joined a f) q) (page (joined a d) q)
-                (look-past n a d sa sd q (omega (arith, ap (λ i. n * i) bd)) ∙ sym (look-past n a b sa sb q (omega arith))) ] ];
+                (look-past n a d sa sd q (omega (arith, ap (λ i. n * i) bd)) ∙ sym (look-past n a b sa sb q (omega arith)))
+          ]
+        ];
         off = and-right (a .on) (d .on) (t .off);
       }
 
@@ -220,10 +232,13 @@ module _ (n : ℕ) (a b : Chip) (sa : Shaped n a) (sb : Shaped n b) (aon : a .on
   programs-first p w d (Ok u) h s = (on, in-joined p h, ap (λ c. joined c b) (s .2) ∙ program-first n a b sa sb p w h)
   programs-first p w d (Err Off) h s = never a aon (s .0)
   programs-first p w d (Err Range) h s = absurd (omega arith)
-  programs-first p w d (Err (Program q)) h s =
-      (on, in-joined p h, s .2,
-        subst (λ f. Torn (joined a b) f (joined d b)) (program-first n a b sa sb p w h)
-          (torn-first n a b sa sb (programmed a p w) d (shaped-programmed n a p w sa) refl (length-set (a .pages) p (cleared (page a p) w)) (s .3)))
+  programs-first p w d (Err (Program q)) h s = (
+    on,
+    in-joined p h,
+    s .2,
+    subst (λ f. Torn (joined a b) f (joined d b)) (program-first n a b sa sb p w h)
+        (torn-first n a b sa sb (programmed a p w) d (shaped-programmed n a p w sa) refl (length-set (a .pages) p (cleared (page a p) w)) (s .3)),
+  )
   programs-first p w d (Err (Erase k)) h s = s
 
   pub programs-second : (p : ℕ) (w : List ℕ) (d : Chip) (r : Answer) → length (a .pages) ≤ p → p < n * joined-blocks a b → Programs b (p - length (a .pages)) w r d
@@ -231,10 +246,13 @@ module _ (n : ℕ) (a b : Chip) (sa : Shaped n a) (sb : Shaped n b) (aon : a .on
   programs-second p w d (Ok u) g h s = (on, omega (arith, joined-long n a b sa sb), ap (λ c. joined a c) (s .2) ∙ program-second n a b sa sb p w g h)
   programs-second p w d (Err Off) g h s = never b bon (s .0)
   programs-second p w d (Err Range) g h s = absurd (omega (arith, s .1, second-within n a b sa sb p g h))
-  programs-second p w d (Err (Program q)) g h s =
-      (on, omega (arith, joined-long n a b sa sb), refl,
-        subst (λ f. Torn (joined a b) f (joined a d)) (program-second n a b sa sb p w g h)
-          (torn-second n a b sa sb (programmed b (p - length (a .pages)) w) d (shaped-programmed n b (p - length (a .pages)) w sb) refl (s .3)))
+  programs-second p w d (Err (Program q)) g h s = (
+    on,
+    omega (arith, joined-long n a b sa sb),
+    refl,
+    subst (λ f. Torn (joined a b) f (joined a d)) (program-second n a b sa sb p w g h)
+        (torn-second n a b sa sb (programmed b (p - length (a .pages)) w) d (shaped-programmed n b (p - length (a .pages)) w sb) refl (s .3)),
+  )
   programs-second p w d (Err (Erase k)) g h s = s
 
   pub erases-first : (k : ℕ) (d : Chip) (r : Answer) → k < a .blocks → Erases a k r d → Erases (joined a b) k r (joined d b)
@@ -242,17 +260,23 @@ module _ (n : ℕ) (a b : Chip) (sa : Shaped n a) (sb : Shaped n b) (aon : a .on
   erases-first k d (Err Off) h s = never a aon (s .0)
   erases-first k d (Err Range) h s = absurd (omega arith)
   erases-first k d (Err (Program q)) h s = s
-  erases-first k d (Err (Erase q)) h s =
-      (on, omega (arith, sa .few), s .2,
-        subst (λ f. Torn (joined a b) f (joined d b)) (erase-first n a b sa sb k h)
-          (torn-first n a b sa sb (erased a k) d (shaped-erased n a k sa h) refl (erased-long a k (block-within n a k sa h)) (s .3)))
+  erases-first k d (Err (Erase q)) h s = (
+    on,
+    omega (arith, sa .few),
+    s .2,
+    subst (λ f. Torn (joined a b) f (joined d b)) (erase-first n a b sa sb k h)
+        (torn-first n a b sa sb (erased a k) d (shaped-erased n a k sa h) refl (erased-long a k (block-within n a k sa h)) (s .3)),
+  )
 
   pub erases-second : (k : ℕ) (d : Chip) (r : Answer) → a .blocks ≤ k → k < joined-blocks a b → Erases b (k - a .blocks) r d → Erases (joined a b) k (retold k r) (joined a d)
   erases-second k d (Ok u) g h s = (on, h, ap (λ c. joined a c) (s .2) ∙ erase-second n a b sa sb k g h)
   erases-second k d (Err Off) g h s = never b bon (s .0)
   erases-second k d (Err Range) g h s = absurd (omega (arith, s .1))
   erases-second k d (Err (Program q)) g h s = s
-  erases-second k d (Err (Erase q)) g h s =
-      (on, h, refl,
-        subst (λ f. Torn (joined a b) f (joined a d)) (erase-second n a b sa sb k g h)
-          (torn-second n a b sa sb (erased b (k - a .blocks)) d (shaped-erased n b (k - a .blocks) sb (let l : k - a .blocks < b .blocks = omega arith in l)) refl (s .3)))
+  erases-second k d (Err (Erase q)) g h s = (
+    on,
+    h,
+    refl,
+    subst (λ f. Torn (joined a b) f (joined a d)) (erase-second n a b sa sb k g h)
+        (torn-second n a b sa sb (erased b (k - a .blocks)) d (shaped-erased n b (k - a .blocks) sb (let l : k - a .blocks < b .blocks = omega arith in l)) refl (s .3)),
+  )

@@ -61,10 +61,12 @@ image-wide xs on p h = cut-wide (16 * image-blocks xs) p (octets xs) h (image-fi
 small : (xs : List ℕ) (on : Bool) (p k : ℕ) → getD (page (image-chip xs on) p) k 0 < 256
 small xs on p k =
     elim (decLt p (16 * image-blocks xs)) [
-      yes h ↦ elim (decLt k 256) [
-          yes l ↦ (let e = image-byte xs on p k h l in omega (arith, e))
-        | no g ↦ (let w = image-wide xs on p h in let e = getD-past (page (image-chip xs on) p) k 0 (omega (arith, w)) in omega (arith, e)) ]
-    | no g ↦ (let w = image-long xs on in let e = past-zero (image-chip xs on .pages) p k (omega (arith, w)) in omega (arith, e)) ]
+      | yes h ↦ elim (decLt k 256) [
+        | yes l ↦ (let e = image-byte xs on p k h l in omega (arith, e))
+        | no g ↦ (let w = image-wide xs on p h in let e = getD-past (page (image-chip xs on) p) k 0 (omega (arith, w)) in omega (arith, e))
+      ]
+      | no g ↦ (let w = image-long xs on in let e = past-zero (image-chip xs on .pages) p k (omega (arith, w)) in omega (arith, e))
+    ]
 
 pub image-formed : (xs : List ℕ) (on : Bool) → Formed 16 (image-chip xs on)
 image-formed xs on =

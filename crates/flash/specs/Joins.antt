@@ -62,13 +62,16 @@ joined-formed n m a b e fa f =
       few = omega arith;
       paged = joined-long n a b sa sb;
       wide = λ q h. let l : q < n * joined-blocks a b = omega (arith, h, joined-long n a b sa sb) in
-        elim (decLt q (length (a .pages))) [
-          yes lt ↦ ap length (look-first n a b sa sb q lt) ∙ fa .wide q lt
-        | no ge ↦ (let g : length (a .pages) ≤ q = omega arith in ap length (look-second n a b sa sb q g l) ∙ fb .wide (q - length (a .pages)) (second-within n a b sa sb q g l)) ];
+          elim (decLt q (length (a .pages))) [
+            | yes lt ↦ ap length (look-first n a b sa sb q lt) ∙ fa .wide q lt
+            | no ge ↦ (let g : length (a .pages) ≤ q = omega arith in ap length (look-second n a b sa sb q g l) ∙ fb .wide (q - length (a .pages)) (second-within n a b sa sb q g l))
+          ];
       bytes = λ q k.
-        elim (decLt q (length (a .pages))) [
-          yes lt ↦ (let s = fa .bytes q k in omega (arith, ap (λ ys. getD ys k 0) (look-first n a b sa sb q lt), s))
-        | no ge ↦ (let g : length (a .pages) ≤ q = omega arith in elim (decLt q (n * joined-blocks a b)) [
-            yes l ↦ (let s = fb .bytes (q - length (a .pages)) k in omega (arith, ap (λ ys. getD ys k 0) (look-second n a b sa sb q g l), s))
-          | no past ↦ omega (arith, ap (λ ys. getD ys k 0) (look-past n a b sa sb q (omega arith))) ]) ];
+          elim (decLt q (length (a .pages))) [
+            | yes lt ↦ (let s = fa .bytes q k in omega (arith, ap (λ ys. getD ys k 0) (look-first n a b sa sb q lt), s))
+            | no ge ↦ (let g : length (a .pages) ≤ q = omega arith in elim (decLt q (n * joined-blocks a b)) [
+              | yes l ↦ (let s = fb .bytes (q - length (a .pages)) k in omega (arith, ap (λ ys. getD ys k 0) (look-second n a b sa sb q g l), s))
+              | no past ↦ omega (arith, ap (λ ys. getD ys k 0) (look-past n a b sa sb q (omega arith)))
+            ])
+          ];
     }

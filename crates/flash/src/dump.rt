@@ -5,10 +5,10 @@ ghost use mathlib.Core.Path.{_≡_, refl};
 ghost use lib.ListN.{length, getD};
 ghost use Rattle.flash.specs.Cuts.{image-formed};
 ghost use Rattle.flash.specs.Image.{image-chip};
-use crate::fault::FlashFault;
 use crate::bytes::IMAGE_PAGES_PER_BLOCK;
 use crate::bytes::blocks_in;
 use crate::bytes::copy_page_out;
+use crate::fault::FlashFault;
 use crate::traits::ReadFlash;
 
 #[derive(Clone, Copy)]

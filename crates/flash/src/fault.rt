@@ -1,6 +1,6 @@
 // What a flash answers in place of doing what it was asked.
 ghost use mathlib.Core.Path.{_≡_};
-ghost use Rattle.flash.specs.Faults.{block-told, number-of, page-told};
+ghost use Rattle.flash.specs.Faults.{Admits, block-told, number-of, page-told};
 
 #[derive(Clone, Copy, PartialEq, Eq, Debug)]
 pub enum FlashFault {
@@ -46,4 +46,17 @@ impl FlashFault {
             _ => None,
         }
     }
+}
+
+// Lets a call go on, or refuses it: power comes before range.
+pub(crate) fn admit(on: bool, within: bool) -> Result<(), FlashFault>
+    ensures { λ r. ⌜ Admits on within r ⌝ }
+{
+    if !on {
+        return Err(FlashFault::Off);
+    }
+    if !within {
+        return Err(FlashFault::Range);
+    }
+    Ok(())
 }

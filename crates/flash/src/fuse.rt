@@ -47,7 +47,10 @@ impl Fuse {
                 if *before == 0 {
                     Fuse::Intact
                 } else {
-                    Fuse::Set { before: *before - 1, leading: *leading }
+                    Fuse::Set {
+                        before: *before - 1,
+                        leading: *leading,
+                    }
                 }
             }
         }

@@ -17,6 +17,7 @@ use crate::bytes::blocks_in;
 use crate::bytes::clear_bits;
 use crate::bytes::copy_page_out;
 use crate::fault::FlashFault;
+use crate::fault::admit;
 use crate::fuse::Fuse;
 use crate::traits::Flash;
 use crate::traits::PAGE_BYTES;
@@ -36,7 +37,11 @@ impl<'a> ImageFlash<'a> {
         ensures power { λ r. ⌜ r .on ≡ true ⌝ }
         ensures fuse { λ r. ⌜ r .fuse ≡ fuse ⌝ }
     {
-        ImageFlash { bytes, on: true, fuse }
+        ImageFlash {
+            bytes,
+            on: true,
+            fuse,
+        }
     }
 
     pub fn bytes(&self) -> &[u8]
@@ -95,12 +100,7 @@ pub impl<'a> ReadFlash for ImageFlash<'a> as ImageReadFlash {
     }
 
     fn read(&self, page: usize, out: &mut [u8; 256]) -> Result<(), FlashFault> {
-        if !self.on {
-            return Err(FlashFault::Off);
-        }
-        if page >= Self::PAGES_PER_BLOCK * self.blocks() {
-            return Err(FlashFault::Range);
-        }
+        admit(self.on, page < Self::PAGES_PER_BLOCK * self.blocks())?;
         copy_page_out(self.bytes, page, out);
         Ok(())
     }
@@ -111,12 +111,7 @@ pub impl<'a> Flash for ImageFlash<'a> as ImageWriteFlash {
         ensures says { λ r. ⌜ Programs (image-chip (now (now (self .entry) .bytes)) (now (self .entry) .on)) page (now (bytes .entry)) r (image-chip (now (now (self .exit) .bytes)) (now (self .exit) .on)) ⌝ }
         ensures exact { λ r. ⌜ ProgramsImage (view (now (self .entry))) page (now (bytes .entry)) r (view (now (self .exit))) ⌝ }
     {
-        if !self.on {
-            return Err(FlashFault::Off);
-        }
-        if page >= IMAGE_PAGES_PER_BLOCK * self.blocks() {
-            return Err(FlashFault::Range);
-        }
+        admit(self.on, page < Self::PAGES_PER_BLOCK * self.blocks())?;
         let at = page * PAGE_BYTES;
         let reach = self.fuse.reach(PAGE_BYTES);
         clear_bits(&mut self.bytes[at..at + reach], bytes);
@@ -127,12 +122,7 @@ pub impl<'a> Flash for ImageFlash<'a> as ImageWriteFlash {
         ensures says { λ r. ⌜ Erases (image-chip (now (now (self .entry) .bytes)) (now (self .entry) .on)) block r (image-chip (now (now (self .exit) .bytes)) (now (self .exit) .on)) ⌝ }
         ensures exact { λ r. ⌜ ErasesImage (view (now (self .entry))) block r (view (now (self .exit))) ⌝ }
     {
-        if !self.on {
-            return Err(FlashFault::Off);
-        }
-        if block >= self.blocks() {
-            return Err(FlashFault::Range);
-        }
+        admit(self.on, block < self.blocks())?;
         let at = block * IMAGE_BLOCK_BYTES;
         let reach = self.fuse.reach(IMAGE_BLOCK_BYTES);
         self.bytes[at..at + reach].fill(0xff);

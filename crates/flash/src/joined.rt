@@ -6,6 +6,7 @@ ghost use Rattle.flash.specs.Joined.{ErasesOne, ProgramsOne, joined, retold};
 ghost use Rattle.flash.specs.Joins.{joined-formed};
 ghost use Rattle.flash.specs.Says.{Erases, Programs};
 use crate::fault::FlashFault;
+use crate::fault::admit;
 use crate::traits::Flash;
 use crate::traits::MOST_BLOCKS;
 use crate::traits::ReadFlash;
@@ -48,12 +49,7 @@ pub impl<A: ReadFlash, B: ReadFlash> ReadFlash for JoinedFlash<A, B> as JoinedRe
     }
 
     fn read(&self, page: usize, out: &mut [u8; 256]) -> Result<(), FlashFault> {
-        if !self.is_on() {
-            return Err(FlashFault::Off);
-        }
-        if page >= A::block_pages() * self.blocks() {
-            return Err(FlashFault::Range);
-        }
+        admit(self.is_on(), page < A::block_pages() * self.blocks())?;
         let split = A::block_pages() * self.first.blocks();
         if page < split {
             self.first.read(page, out)
@@ -79,12 +75,7 @@ pub impl<A: Flash, B: Flash> Flash for JoinedFlash<A, B> as JoinedWriteFlash {
         ensures says { λ r. ⌜ Programs (joined (A·ReadFlash .chip (now (self .entry) .first)) (B·ReadFlash .chip (now (self .entry) .second))) page (now (bytes .entry)) r (joined (A·ReadFlash .chip (now (self .exit) .first)) (B·ReadFlash .chip (now (self .exit) .second))) ⌝ }
         ensures one { λ r. ⌜ ProgramsOne (A·ReadFlash .chip (now (self .entry) .first)) (B·ReadFlash .chip (now (self .entry) .second)) page (now (bytes .entry)) r (A·ReadFlash .chip (now (self .exit) .first)) (B·ReadFlash .chip (now (self .exit) .second)) ⌝ }
     {
-        if !self.is_on() {
-            return Err(FlashFault::Off);
-        }
-        if page >= A::block_pages() * self.blocks() {
-            return Err(FlashFault::Range);
-        }
+        admit(self.is_on(), page < A::block_pages() * self.blocks())?;
         let split = A::block_pages() * self.first.blocks();
         if page < split {
             self.first.program(page, bytes)
@@ -97,12 +88,7 @@ pub impl<A: Flash, B: Flash> Flash for JoinedFlash<A, B> as JoinedWriteFlash {
         ensures says { λ r. ⌜ Erases (joined (A·ReadFlash .chip (now (self .entry) .first)) (B·ReadFlash .chip (now (self .entry) .second))) block r (joined (A·ReadFlash .chip (now (self .exit) .first)) (B·ReadFlash .chip (now (self .exit) .second))) ⌝ }
         ensures one { λ r. ⌜ ErasesOne (A·ReadFlash .chip (now (self .entry) .first)) (B·ReadFlash .chip (now (self .entry) .second)) block r (A·ReadFlash .chip (now (self .exit) .first)) (B·ReadFlash .chip (now (self .exit) .second)) ⌝ }
     {
-        if !self.is_on() {
-            return Err(FlashFault::Off);
-        }
-        if block >= self.blocks() {
-            return Err(FlashFault::Range);
-        }
+        admit(self.is_on(), block < self.blocks())?;
         let split = self.first.blocks();
         if block < split {
             self.first.erase(block)

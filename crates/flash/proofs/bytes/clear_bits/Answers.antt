@@ -15,11 +15,12 @@ pub loop-k-again : need.loop-k-again
 loop-k-again c =
     let k = c .loop-k .k in
     let here : getD (c .loop-k .cells) k 0 ≡ getD (c .args .cells .now) k 0 = c .loop-k .inv .1 k (omega arith) in
-    let lt : k < length (c .loop-k .cells) = omega arith in
-    (below-more _ _
-        (λ j h. let ne : j ≢ k = omega arith in rw getD-set-other (c .loop-k .inv .0 j h))
-        (rw getD-set-same (ap (λ x. bitAnd x (getD (c .args .given .now) k 0)) here)),
-      λ j h. let ne : j ≢ k = omega arith in rw getD-set-other (c .loop-k .inv .1 j (omega arith)))
+    let lt : k < length (c .loop-k .cells) = omega arith in (
+      below-more _ _
+          (λ j h. let ne : j ≢ k = omega arith in rw getD-set-other (c .loop-k .inv .0 j h))
+          (rw getD-set-same (ap (λ x. bitAnd x (getD (c .args .given .now) k 0)) here)),
+      λ j h. let ne : j ≢ k = omega arith in rw getD-set-other (c .loop-k .inv .1 j (omega arith)),
+    )
 
 pub returns : need.returns
 returns c =
@@ -27,4 +28,4 @@ returns c =
     let w = c .args .given .now in
     let long : length (cleared old w) ≡ length old = length-cleared old w (omega arith) in
     ext-getD 0 (c .loop-k .cells) (cleared old w) (omega arith)
-      (λ j h. c .loop-k .inv .0 j (omega arith) ∙ sym (cleared-at old w j (omega arith) (omega arith)))
+    (λ j h. c .loop-k .inv .0 j (omega arith) ∙ sym (cleared-at old w j (omega arith) (omega arith)))

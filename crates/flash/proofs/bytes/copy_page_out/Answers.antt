@@ -17,11 +17,12 @@ loop-k-again c =
     let lt : k < length (c .loop-k .out) = omega (arith, c .loop-k .inv .0) in
     let at : c .args .page * 256 + k ≡ 256 * c .args .page + k = omega arith in
     let fit : getD xs (c .args .page * 256 + k) 0 < 256 = c .typed .bytes (c .args .page * 256 + k) .fits in
-    let whole : getD xs (c .args .page * 256 + k) 0 ≡ getD xs (c .args .page * 256 + k) 0 % 256 = omega arith in
-    (simp length-set (c .loop-k .inv .0),
+    let whole : getD xs (c .args .page * 256 + k) 0 ≡ getD xs (c .args .page * 256 + k) 0 % 256 = omega arith in (
+      simp length-set (c .loop-k .inv .0),
       below-more _ _
-        (λ j h. let ne : j ≢ k = omega arith in rw getD-set-other (c .loop-k .inv .1 j h))
-        (rw getD-set-same (whole ∙ ap (λ i. getD xs i 0 % 256) at)))
+          (λ j h. let ne : j ≢ k = omega arith in rw getD-set-other (c .loop-k .inv .1 j h))
+          (rw getD-set-same (whole ∙ ap (λ i. getD xs i 0 % 256) at)),
+    )
 
 pub returns : need.returns
 returns c =
@@ -30,5 +31,5 @@ returns c =
     let part = take 256 (drop (256 * p) (octets xs)) in
     let long : length part ≡ 256 = simp (length-take, length-drop, length-octets) (omega arith) in
     ext-getD 0 (c .loop-k .out) part (c .loop-k .inv .0 ∙ sym long)
-      (λ j h. let l : j < 256 = omega (arith, c .loop-k .inv .0, h) in
-        c .loop-k .inv .1 j (omega arith) ∙ sym (getD-take 256 (drop (256 * p) (octets xs)) j 0 l ∙ getD-drop (256 * p) (octets xs) j 0 ∙ octet-at xs (256 * p + j)))
+    (λ j h. let l : j < 256 = omega (arith, c .loop-k .inv .0, h) in
+    c .loop-k .inv .1 j (omega arith) ∙ sym (getD-take 256 (drop (256 * p) (octets xs)) j 0 l ∙ getD-drop (256 * p) (octets xs) j 0 ∙ octet-at xs (256 * p + j)))
