@@ -1,7 +1,7 @@
 // Bytes in memory as pages and blocks, for the image and the dump.
 ghost use mathlib.Core.Path.{_≡_};
 ghost use Prim.Native.Nat.{_+_, _*_, _<_, _≤_};
-ghost use lib.ListN.{length, take, drop};
+ghost use lib.ListN.{length, take, drop, replicate};
 ghost use Rattle.flash.specs.Chip.{cleared};
 ghost use Rattle.flash.specs.Image.{image-blocks, octets};
 use crate::traits::MOST_BLOCKS;
@@ -37,4 +37,11 @@ pub(crate) fn clear_bits(cells: &mut [u8], given: &[u8; 256])
     for k in 0..cells.len() {
         cells[k] &= given[k];
     }
+}
+
+// Each bit of the cells ends as 1.
+pub(crate) fn set_bits(cells: &mut [u8])
+    ensures { λ _. ⌜ now (cells .exit) ≡ replicate (length (now (cells .entry))) 255 ⌝ }
+{
+    cells.fill(0xff);
 }

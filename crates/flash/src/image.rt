@@ -16,6 +16,7 @@ use crate::bytes::IMAGE_PAGES_PER_BLOCK;
 use crate::bytes::blocks_in;
 use crate::bytes::clear_bits;
 use crate::bytes::copy_page_out;
+use crate::bytes::set_bits;
 use crate::fault::FlashFault;
 use crate::fault::admit;
 use crate::fuse::Fuse;
@@ -47,7 +48,7 @@ impl<'a> ImageFlash<'a> {
     pub fn bytes(&self) -> &[u8]
         ensures { λ r. ⌜ now r ≡ now (now (self .entry) .bytes) ⌝ }
     {
-        self.bytes
+        &*self.bytes
     }
 
     pub fn set_fuse(&mut self, fuse: Fuse)
@@ -125,7 +126,7 @@ pub impl<'a> Flash for ImageFlash<'a> as ImageWriteFlash {
         admit(self.on, block < self.blocks())?;
         let at = block * IMAGE_BLOCK_BYTES;
         let reach = self.fuse.reach(IMAGE_BLOCK_BYTES);
-        self.bytes[at..at + reach].fill(0xff);
+        set_bits(&mut self.bytes[at..at + reach]);
         self.burn(FlashFault::Erase { block })
     }
 

@@ -40,8 +40,8 @@ returns c =
     let at = c .args .block * 4096 in
     let long : length (take ((at + n) - at) (drop at xs)) ≡ n =
     simp (length-take, length-drop) (omega (arith, c .reach-reach .ensures, reach-within (s .fuse) 4096)) in
-    let filled : c .fill .last .self ≡ replicate n 255 = c .fill .ensures .after (λ y e. e) ∙ ap (λ i. replicate i 255) long in
+    let filled : c .set-bits .last .cells ≡ replicate n 255 = c .set-bits .ensures ∙ ap (λ i. replicate i 255) long in
     let done = erase-ends xs (c .args .block) (s .on) (s .fuse) h up
-    (c .burn .last .self .bytes .now) (c .fill .last .self) at n (c .burn .last .self .on) (c .burn .last .self .fuse) (c .burn .result)
+    (c .burn .last .self .bytes .now) (c .set-bits .last .cells) at n (c .burn .last .self .on) (c .burn .last .self .fuse) (c .burn .result)
     (omega arith) (c .reach-reach .ensures) filled (c .burn .ensures .bytes) (c .burn .ensures .answer) (c .burn .ensures .power) (c .burn .ensures .fuse) in
     record { says = done .0; exact = done .1 }

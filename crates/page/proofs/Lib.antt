@@ -1,0 +1,12 @@
+pub mod Rising
+pub mod BitLaws
+pub mod Padding
+pub mod Same
+pub mod Pasting
+pub mod Packing
+pub mod Ranges
+pub mod Placing
+pub mod Reading
+pub mod RoundTrip
+pub mod Unlisted
+pub mod Decodes

@@ -1,0 +1,10 @@
+pub mod Code
+pub mod Bits
+pub mod Names
+pub mod Fields
+pub mod Fits
+pub mod Decoded
+pub mod Encoded
+pub mod Pasted
+pub mod Holds
+pub mod Worked
