@@ -5,7 +5,9 @@ use flash::FlashFaultPartialEq;
 use flash::Flash;
 use flash::Fuse;
 use flash::ImageFlash;
+use flash::ImageReadFlash;
 use flash::ImageWriteFlash;
+use flash::ReadFlash;
 use std::test::*;
 
 const BYTES: usize = 8292;
@@ -85,7 +87,7 @@ fn run_cut(before: usize, leading: usize) -> Result<(), Fail> {
             check_eq(answer, Err(FlashFault::Off))?;
         }
     }
-    check(*flash.bytes() == expected)
+    check(flash.bytes() == expected.as_slice())
 }
 
 #[test]
@@ -107,6 +109,8 @@ fn power_up_goes_on_after_a_cut() -> Result<(), Fail> {
     flash.power_up();
     check_eq(flash.program(16, &[0x0f; 256]), Err(FlashFault::Range))?;
     check_eq(flash.program(3, &[0x3c; 256]), Ok(()))?;
-    check_eq(flash.bytes()[768], 0x0c)?;
-    check_eq(flash.bytes()[769], 0x3c)
+    let mut page = [0; 256];
+    check_eq(flash.read(3, &mut page), Ok(()))?;
+    check_eq(page[0], 0x0c)?;
+    check_eq(page[1], 0x3c)
 }

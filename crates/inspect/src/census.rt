@@ -49,7 +49,7 @@ impl Census {
 
     // Takes in one page more.
     fn add(&mut self, page: &[u8; PAGE_BYTES])
-        requires { ⌜ now self .data + now self .spoilt + now self .erased < 2 ^ 32 ⌝ }
+        requires { ⌜ now self .«data» + now self .spoilt + now self .erased < 2 ^ 32 ⌝ }
         ensures { λ _. ⌜ ((pages : List (List ℕ)) → Counted pages (now (self .entry)) → Counted (pages ++ (now (page .entry) ∷ [])) (now (self .exit))) ⌝ }
     {
         match page_state(page) {

@@ -2,11 +2,31 @@
 use flash::DumpFlash;
 use flash::DumpReadFlash;
 use flash::ReadFlash;
-use inspect::BlockReport;
-use inspect::BlockReportDisplay;
-use inspect::inspect_block;
+use inspect::Census;
+use inspect::inspect_pages;
 use std::error::AnyError;
 use std::io::Read;
+
+fn counted(dump: &DumpFlash, first: usize, end: usize) -> Result<Census, AnyError> {
+    let Ok(census) = inspect_pages(dump, first, end) else {
+        return Err("the image cannot be read".into());
+    };
+    Ok(census)
+}
+
+fn print_block(rt: &LibcRuntime, dump: &DumpFlash, block: usize) -> Result<(), AnyError> {
+    let first = DumpReadFlash::block_pages().saturating_mul(block);
+    let census = counted(dump, first, first.saturating_add(DumpReadFlash::block_pages()))?;
+    let Census { data, spoilt, erased, numbers } = census;
+    print!(rt, "block {block}: {data} data, {spoilt} spoilt, {erased} erased")?;
+    if let Some(numbers) = numbers {
+        let lowest = numbers.lowest;
+        let highest = numbers.highest;
+        print!(rt, ", numbers {lowest} to {highest}")?;
+    }
+    println!(rt, "")?;
+    Ok(())
+}
 
 fn run(rt: &LibcRuntime) -> Result<(), AnyError> {
     let mut image = Vec::new(rt.alloc());
@@ -15,9 +35,10 @@ fn run(rt: &LibcRuntime) -> Result<(), AnyError> {
     let blocks = dump.blocks();
     println!(rt, "blocks {blocks}")?;
     for block in 0..blocks {
-        let report = inspect_block(&dump, block)?;
-        println!(rt, "block {block}: {report}")?;
+        print_block(rt, &dump, block)?;
     }
+    let Census { data, spoilt, erased, .. } = counted(&dump, 0, DumpReadFlash::block_pages().saturating_mul(blocks))?;
+    println!(rt, "total: {data} data, {spoilt} spoilt, {erased} erased")?;
     Ok(())
 }
 

@@ -8,3 +8,4 @@ pub mod Encoded
 pub mod Pasted
 pub mod Holds
 pub mod Worked
+pub mod Tearing
