@@ -5,6 +5,7 @@ use flash::FlashFault;
 use flash::Fuse;
 use flash::ImageFlash;
 use flash::ImageWriteFlash;
+use flash::PAGE_BYTES;
 use page::CHUNK_BYTES;
 use page::Chunk;
 use page::Content;
@@ -12,7 +13,6 @@ use page::Entry;
 use page::EntryKind;
 use page::Header;
 use page::Name;
-use page::PAGE_BYTES;
 use page::Page;
 use page::encode;
 use std::error::AnyError;
@@ -49,7 +49,12 @@ fn entry(directory: u32, kind: EntryKind, length: u16, name: &[u8]) -> Result<Co
     }))
 }
 
-fn put(flash: &mut ImageFlash, place: usize, header: Header, content: Content) -> Result<(), AnyError> {
+fn put(
+    flash: &mut ImageFlash,
+    place: usize,
+    header: Header,
+    content: Content,
+) -> Result<(), AnyError> {
     let mut bytes = [0xff; PAGE_BYTES];
     let Ok(()) = encode(&Page { header, content }, &mut bytes) else {
         return Err("a field out of its range".into());
@@ -63,20 +68,49 @@ fn put(flash: &mut ImageFlash, place: usize, header: Header, content: Content) -
 
 fn fill(flash: &mut ImageFlash) -> Result<(), AnyError> {
     put(flash, 0, header(1, 0, 1, 0), Content::Note)?;
-    put(flash, RECORDS, header(2, 0, 1, CAL), entry(0, EntryKind::Directory, 0, b"cal")?)?;
-    put(flash, RECORDS + 1, header(3, 0, 1, ARC), entry(CAL, EntryKind::File, 0, b"arc")?)?;
-    let mut chunk = Chunk { index: 0, bytes: [0; CHUNK_BYTES] };
+    put(
+        flash,
+        RECORDS,
+        header(2, 0, 1, CAL),
+        entry(0, EntryKind::Directory, 0, b"cal")?,
+    )?;
+    put(
+        flash,
+        RECORDS + 1,
+        header(3, 0, 1, ARC),
+        entry(CAL, EntryKind::File, 0, b"arc")?,
+    )?;
+    let mut chunk = Chunk {
+        index: 0,
+        bytes: [0; CHUNK_BYTES],
+    };
     chunk.bytes[0] = 17;
     chunk.bytes[1] = 4;
     chunk.bytes[2] = 9;
-    put(flash, RECORDS + 2, header(4, 0, 2, ARC), Content::Chunk(chunk))?;
-    put(flash, RECORDS + 3, header(5, 1, 2, ARC), entry(CAL, EntryKind::File, 3, b"arc")?)?;
+    put(
+        flash,
+        RECORDS + 2,
+        header(4, 0, 2, ARC),
+        Content::Chunk(chunk),
+    )?;
+    put(
+        flash,
+        RECORDS + 3,
+        header(5, 1, 2, ARC),
+        entry(CAL, EntryKind::File, 3, b"arc")?,
+    )?;
     put(flash, RECORDS + 4, header(6, 0, 1, ARC), Content::Gone)
 }
 
 fn run(rt: &LibcRuntime) -> Result<(), AnyError> {
     let mut image = vec![in rt.alloc(); 0xffu8; IMAGE_BYTES]?;
-    let mut flash = ImageFlash::new(&mut image, Fuse::Set { before: 5, leading: 9 });
+    let mut flash = ImageFlash::new(
+        &mut image,
+        Fuse::Set {
+            before: 5,
+            leading: 9,
+        },
+    );
     fill(&mut flash)?;
     rt.stdout().write_all(flash.bytes())?;
     Ok(())

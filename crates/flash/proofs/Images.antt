@@ -131,6 +131,7 @@ module _ (xs : List ℕ) (b : ℕ) (on : Bool) (h : b < image-blocks xs) where
       ]
 
   wide-page : (q : ℕ) → q < 16 * image-blocks xs → length (page (erased chip b) q) ≡ 256
+  unfolding blank
   wide-page q l =
       elim (part q) [
         | inl below ↦ ap length (erased-below chip b block-within q below) ∙ image-wide xs on q l
@@ -139,6 +140,7 @@ module _ (xs : List ℕ) (b : ℕ) (on : Bool) (h : b < image-blocks xs) where
       ]
 
   wiped-byte : (q k : ℕ) → q < 16 * image-blocks xs → k < 256 → getD (page (erased chip b) q) k 0 ≡ getD wiped (256 * q + k) 0 % 256
+  unfolding blank
   wiped-byte q k l m =
       elim (part q) [
         | inl below ↦

@@ -18,7 +18,7 @@ abbrev pub page : Chip → ℕ → List ℕ
 page c p = getD (c .pages) p []
 
 -- a page with every bit at 1
-abbrev pub blank : List ℕ
+unfoldable pub blank : List ℕ
 blank = replicate 256 255
 
 -- what every chip with n pages to a block keeps

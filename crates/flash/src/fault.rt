@@ -4,18 +4,18 @@ ghost use Rattle.flash.specs.Faults.{Admits, block-told, number-of, page-told}
 
 #[derive(Clone, Copy, PartialEq, Eq, Debug)]
 pub enum FlashFault {
-    // Power was off before the call.
+    /// Power was off before the call.
     Off,
-    // The page or block lies past the end.
+    /// The page or block lies past the end.
     Range,
-    // Power went while this page was programmed.
+    /// Power went while this page was programmed.
     Program { page: usize },
-    // Power went while this block was erased.
+    /// Power went while this block was erased.
     Erase { block: usize },
 }
 
 impl FlashFault {
-    // The number of the refusal: 10 for power that is off or went, 0 for `Range`, which no caller of the store ever meets.
+    /// The number of the refusal: 10 for power that is off or went, 0 for `Range`, which no caller of the store ever meets.
     pub fn number(&self) -> u8
         ensures { λ r. ⌜ r ≡ number-of (now (self .entry)) ⌝ }
     {
@@ -27,7 +27,7 @@ impl FlashFault {
         }
     }
 
-    // The page whose programming was cut short.
+    /// The page whose programming was cut short.
     pub fn page(&self) -> Option<usize>
         ensures { λ r. ⌜ r ≡ page-told (now (self .entry)) ⌝ }
     {
@@ -37,7 +37,7 @@ impl FlashFault {
         }
     }
 
-    // The block whose erase was cut short.
+    /// The block whose erase was cut short.
     pub fn block(&self) -> Option<usize>
         ensures { λ r. ⌜ r ≡ block-told (now (self .entry)) ⌝ }
     {

@@ -4,14 +4,14 @@ ghost use Rattle.flash.specs.Fuses.{blows-at, burnt-of, reach-of};
 
 #[derive(Clone, Copy, PartialEq, Eq, Debug)]
 pub enum Fuse {
-    // Power never goes.
+    /// Power never goes.
     Intact,
-    // `before` more programs and erases end; power goes in the next one, once the first `leading` bytes of its page or block are final.
+    /// `before` more programs and erases end; power goes in the next one, once the first `leading` bytes of its page or block are final.
     Set { before: usize, leading: usize },
 }
 
 impl Fuse {
-    // Power goes in the next program or erase.
+    /// Power goes in the next program or erase.
     pub fn blows(&self) -> bool
         ensures { λ r. ⌜ r ≡ blows-at (now (self .entry)) ⌝ }
     {
@@ -21,7 +21,7 @@ impl Fuse {
         }
     }
 
-    // How many of so many bytes the next program or erase makes final.
+    /// How many of so many bytes the next program or erase makes final.
     pub fn reach(&self, bytes: usize) -> usize
         ensures { λ r. ⌜ r ≡ reach-of (now (self .entry)) bytes ⌝ }
     {
@@ -37,7 +37,7 @@ impl Fuse {
         }
     }
 
-    // The fuse once the next program or erase is over. It blows once.
+    /// The fuse once the next program or erase is over. It blows once.
     pub fn burnt(&self) -> Fuse
         ensures { λ r. ⌜ r ≡ burnt-of (now (self .entry)) ⌝ }
     {

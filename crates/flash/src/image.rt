@@ -24,7 +24,7 @@ use crate::traits::Flash;
 use crate::traits::PAGE_BYTES;
 use crate::traits::ReadFlash;
 
-// One block to each 4,096 bytes, up to 1,000; the bytes past the last block are never touched.
+/// One block to each 4,096 bytes, up to 1,000; the bytes past the last block are never touched.
 #[derive(Drop)]
 pub struct ImageFlash<'a> {
     bytes: &'a mut [u8],

@@ -1,7 +1,8 @@
-// A flash chip by its meaning: `ReadFlash` reads, `Flash` also programs, erases and powers up.
-// Programming clears bits, erasing sets them, and power may go in either, leaving each bit old or final.
-// Three kinds keep that meaning: an image in memory whose fuse cuts power, two flashes end to end,
-// and a dump that is only read. Code above is generic over the traits and proved once for all kinds.
+//! A flash chip by its meaning: `ReadFlash` reads, `Flash` also programs, erases and powers up.
+//! Programming clears bits, erasing sets them, and power may go in either, leaving each bit old or final.
+//! Three kinds keep that meaning: an image in memory whose fuse cuts power, two flashes end to end,
+//! and a dump that is only read. Code above is generic over the traits and proved once for all kinds.
+
 mod bytes;
 mod dump;
 mod fault;

@@ -1,8 +1,8 @@
 // The fuse at every operation of a short script, with few, many and all leading bytes final.
+use flash::Flash;
 use flash::FlashFault;
 use flash::FlashFaultDebug;
 use flash::FlashFaultPartialEq;
-use flash::Flash;
 use flash::Fuse;
 use flash::ImageFlash;
 use flash::ImageReadFlash;
@@ -14,10 +14,19 @@ const BYTES: usize = 8292;
 
 const SCRIPT: [Step; 5] = [
     Step::Erase { block: 1 },
-    Step::Program { page: 16, given: 0x3c },
-    Step::Program { page: 31, given: 0xf0 },
+    Step::Program {
+        page: 16,
+        given: 0x3c,
+    },
+    Step::Program {
+        page: 31,
+        given: 0xf0,
+    },
     Step::Erase { block: 0 },
-    Step::Program { page: 16, given: 0x99 },
+    Step::Program {
+        page: 16,
+        given: 0x99,
+    },
 ];
 
 const LEADING: [usize; 5] = [0, 1, 255, 256, 4096];
@@ -103,8 +112,17 @@ fn the_fuse_cuts_every_operation() -> Result<(), Fail> {
 #[test]
 fn power_up_goes_on_after_a_cut() -> Result<(), Fail> {
     let mut bytes = [0xff; 4096];
-    let mut flash = ImageFlash::new(&mut bytes, Fuse::Set { before: 0, leading: 1 });
-    check_eq(flash.program(3, &[0x0f; 256]), Err(FlashFault::Program { page: 3 }))?;
+    let mut flash = ImageFlash::new(
+        &mut bytes,
+        Fuse::Set {
+            before: 0,
+            leading: 1,
+        },
+    );
+    check_eq(
+        flash.program(3, &[0x0f; 256]),
+        Err(FlashFault::Program { page: 3 }),
+    )?;
     check_eq(flash.program(16, &[0x0f; 256]), Err(FlashFault::Off)).note("off comes before range")?;
     flash.power_up();
     check_eq(flash.program(16, &[0x0f; 256]), Err(FlashFault::Range))?;

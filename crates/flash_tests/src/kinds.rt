@@ -20,7 +20,13 @@ fn two_images_read_as_one() -> Result<(), Fail> {
     let mut left = [0xff; 4096];
     let mut right = [0xff; 8192];
     let first = ImageFlash::new(&mut left, Fuse::Intact);
-    let second = ImageFlash::new(&mut right, Fuse::Set { before: 1, leading: 0 });
+    let second = ImageFlash::new(
+        &mut right,
+        Fuse::Set {
+            before: 1,
+            leading: 0,
+        },
+    );
     let mut both = JoinedFlash::new(first, second);
     check_eq(both.blocks(), 3)?;
     check_eq(both.program(17, &[0x11; 256]), Ok(()))?;

@@ -52,8 +52,9 @@ module _ (pages : List (List ℕ)) (p : List ℕ) where
   each : (P : List ℕ → Type 0) → ((k : ℕ) → k < length pages → P (getD pages k [])) → P p → (k : ℕ) → k < length (pages ++ p ∷ []) → P (getD (pages ++ p ∷ []) k [])
   each P old new k h =
       elim (decLt k (length pages)) [
-        yes l ↦ subst P (sym (old-at k l)) (old k l)
-      | no ge ↦ (let e : length pages ≡ k = omega (arith, long) in subst (λ i. P (getD (pages ++ p ∷ []) i [])) e (subst P (sym new-at) new)) ]
+        | yes l ↦ subst P (sym (old-at k l)) (old k l)
+        | no ge ↦ (let e : length pages ≡ k = omega (arith, long) in subst (λ i. P (getD (pages ++ p ∷ []) i [])) e (subst P (sym new-at) new))
+      ]
 
   abbrev Inside : Numbers → List ℕ → Type 0
   Inside n q = state-of q ≡ Data → (n .lowest ≤ number-of q) × (number-of q ≤ n .highest)
@@ -83,11 +84,13 @@ module _ (pages : List (List ℕ)) (p : List ℕ) where
   spans-widened is (Some n) s =
       record {
         low = elim (decLe (n .lowest) (number-of p)) [
-            yes l ↦ (let e : n .lowest ≡ min (n .lowest) (number-of p) = omega arith in subst (Has (pages ++ p ∷ [])) e (has-old (n .lowest) (s .low)))
-          | no g ↦ (let e : number-of p ≡ min (n .lowest) (number-of p) = omega arith in subst (Has (pages ++ p ∷ [])) e (has-new is)) ];
+          | yes l ↦ (let e : n .lowest ≡ min (n .lowest) (number-of p) = omega arith in subst (Has (pages ++ p ∷ [])) e (has-old (n .lowest) (s .low)))
+          | no g ↦ (let e : number-of p ≡ min (n .lowest) (number-of p) = omega arith in subst (Has (pages ++ p ∷ [])) e (has-new is))
+        ];
         high = elim (decLe (number-of p) (n .highest)) [
-            yes l ↦ (let e : n .highest ≡ max (n .highest) (number-of p) = omega arith in subst (Has (pages ++ p ∷ [])) e (has-old (n .highest) (s .high)))
-          | no g ↦ (let e : number-of p ≡ max (n .highest) (number-of p) = omega arith in subst (Has (pages ++ p ∷ [])) e (has-new is)) ];
+          | yes l ↦ (let e : n .highest ≡ max (n .highest) (number-of p) = omega arith in subst (Has (pages ++ p ∷ [])) e (has-old (n .highest) (s .high)))
+          | no g ↦ (let e : number-of p ≡ max (n .highest) (number-of p) = omega arith in subst (Has (pages ++ p ∷ [])) e (has-new is))
+        ];
         within = each (Inside (widened-by (Some n) (number-of p))) (λ k h e. let w = s .within k h e in (omega (arith, w .0), omega (arith, w .1))) (λ _. (omega arith, omega arith));
       }
 

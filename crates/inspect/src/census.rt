@@ -31,7 +31,10 @@ fn widened(numbers: Option<Numbers>, number: u32) -> Numbers
     ensures { λ r. ⌜ r ≡ widened-by numbers number ⌝ }
 {
     match numbers {
-        None => Numbers { lowest: number, highest: number },
+        None => Numbers {
+            lowest: number,
+            highest: number,
+        },
         Some(seen) => Numbers {
             lowest: seen.lowest.min(number),
             highest: seen.highest.max(number),
@@ -44,7 +47,12 @@ impl Census {
     fn empty() -> Census
         ensures { λ r. ⌜ Counted [] r ⌝ }
     {
-        Census { data: 0, spoilt: 0, erased: 0, numbers: None }
+        Census {
+            data: 0,
+            spoilt: 0,
+            erased: 0,
+            numbers: None,
+        }
     }
 
     // Takes in one page more.
@@ -64,7 +72,11 @@ impl Census {
 }
 
 /// Counts the pages from `first` up to `end`, which it does not read, or hands on why one cannot be read.
-pub fn inspect_pages<F: ReadFlash>(flash: &F, first: usize, end: usize) -> Result<Census, FlashFault>
+pub fn inspect_pages<F: ReadFlash>(
+    flash: &F,
+    first: usize,
+    end: usize,
+) -> Result<Census, FlashFault>
     ensures { λ r. ⌜ Inspects (F·ReadFlash .chip (now (flash .entry))) first end r ⌝ }
 {
     let mut census = Census::empty();

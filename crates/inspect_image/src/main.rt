@@ -16,9 +16,21 @@ fn counted(dump: &DumpFlash, first: usize, end: usize) -> Result<Census, AnyErro
 
 fn print_block(rt: &LibcRuntime, dump: &DumpFlash, block: usize) -> Result<(), AnyError> {
     let first = DumpReadFlash::block_pages().saturating_mul(block);
-    let census = counted(dump, first, first.saturating_add(DumpReadFlash::block_pages()))?;
-    let Census { data, spoilt, erased, numbers } = census;
-    print!(rt, "block {block}: {data} data, {spoilt} spoilt, {erased} erased")?;
+    let census = counted(
+        dump,
+        first,
+        first.saturating_add(DumpReadFlash::block_pages()),
+    )?;
+    let Census {
+        data,
+        spoilt,
+        erased,
+        numbers,
+    } = census;
+    print!(
+        rt,
+        "block {block}: {data} data, {spoilt} spoilt, {erased} erased"
+    )?;
     if let Some(numbers) = numbers {
         let lowest = numbers.lowest;
         let highest = numbers.highest;
@@ -37,7 +49,16 @@ fn run(rt: &LibcRuntime) -> Result<(), AnyError> {
     for block in 0..blocks {
         print_block(rt, &dump, block)?;
     }
-    let Census { data, spoilt, erased, .. } = counted(&dump, 0, DumpReadFlash::block_pages().saturating_mul(blocks))?;
+    let Census {
+        data,
+        spoilt,
+        erased,
+        ..
+    } = counted(
+        &dump,
+        0,
+        DumpReadFlash::block_pages().saturating_mul(blocks),
+    )?;
     println!(rt, "total: {data} data, {spoilt} spoilt, {erased} erased")?;
     Ok(())
 }

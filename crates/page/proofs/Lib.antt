@@ -10,4 +10,4 @@ pub mod Reading
 pub mod RoundTrip
 pub mod Unlisted
 pub mod Decodes
-pub mod Tearing
+pub mod TornPages

@@ -6,9 +6,10 @@ use Prim.Native.Nat.{ℕ, _+_, _-_, _*_, _≤_, _<_}
 use lib.Bits.{bitAnd}
 use lib.Count.{ones}
 use lib.Dec.{eqb}
-use lib.ListN.{length, getD, drop, replicate}
+use lib.ListN.{length, getD, drop}
 use Rattle.std.specs.shelf.Lists.{sumBy}
 use Rattle.std.specs.shelf.Text.{sameBytes}
+unfoldable pub use Rattle.flash.specs.Chip.{blank}
 use Rattle.page.specs.declared.code.PageState.{PageState}
 use Rattle.page.specs.declared.code.PageState.the-variants.{Erased, Data, Spoilt}
 
@@ -27,10 +28,6 @@ stored-count page = getD page 0 0 * 256 + getD page 1 0
 -- a data page stores its own zero count
 unfoldable pub is-data : List ℕ → Bool
 is-data page = eqb (stored-count page) (zero-count page)
-
--- a page with every bit at 1
-unfoldable pub blank : List ℕ
-blank = replicate 256 255
 
 -- whether every bit of a page is 1
 abbrev pub is-blank : List ℕ → Bool

@@ -5,8 +5,7 @@ use mathlib.Core.List.{List}
 use mathlib.Core.Logic.{_≢_}
 use Prim.Native.Nat.{ℕ, _<_}
 use lib.ListN.{length, getD}
-use Rattle.flash.specs.Chip.{Chip, Formed, InBlock, Torn, page, programmed, erased}
-use Rattle.flash.specs.Chip.{blank as all-ones}
+use Rattle.flash.specs.Chip.{Chip, Formed, InBlock, Torn, blank, page, programmed, erased}
 use Rattle.page.specs.Code.{is-data, Settled}
 
 -- the page p was all ones and was being programmed with w: it is data only where it is w, and no other page changed
@@ -23,7 +22,7 @@ pub record TornErase (c d : Chip) (b : ℕ) : Type 0 where
 
 -- programming a settled page onto all ones adds that page or none, however power goes
 abbrev pub Torn-program-adds-none : Type 0
-Torn-program-adds-none = (n : ℕ) (c d : Chip) (p : ℕ) (w : List ℕ) → Formed n c → Formed n d → p < length (c .pages) → page c p ≡ all-ones
+Torn-program-adds-none = (n : ℕ) (c d : Chip) (p : ℕ) (w : List ℕ) → Formed n c → Formed n d → p < length (c .pages) → page c p ≡ blank
     → length w ≡ 256 → ((k : ℕ) → getD w k 0 < 256) → Settled w → Torn c (programmed c p w) d → TornProgram c d p w
 
 -- erasing a block of settled pages only takes data pages away, however power goes

@@ -2,7 +2,7 @@
 ghost use mathlib.Core.Path.{_≡_};
 ghost use Prim.Native.Nat.{_+_, _^_, _<_, _≤_};
 ghost use Rattle.page.specs.Bits.{bit as bit-of, field};
-use crate::layout::PAGE_BYTES;
+use flash::PAGE_BYTES;
 
 /// The bits of a field: the first one's number, and how many there are.
 #[derive(Clone, Copy)]

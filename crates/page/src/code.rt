@@ -3,7 +3,7 @@ ghost use mathlib.Core.Path.{_≡_};
 ghost use Rattle.page.specs.Code.{state-of, is-data, is-blank, stored-count, zero-count, Rising-spoils};
 use crate::layout::COUNT_BYTES;
 use crate::layout::ONES;
-use crate::layout::PAGE_BYTES;
+use flash::PAGE_BYTES;
 
 /// A page is erased where every bit is 1, and data where it stores its own zero count.
 #[derive(Clone, Copy, PartialEq, Eq, Debug)]

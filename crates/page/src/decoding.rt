@@ -27,10 +27,10 @@ use crate::layout::NAME_AT;
 use crate::layout::NAME_BYTES;
 use crate::layout::NAME_LENGTH;
 use crate::layout::NUMBER;
-use crate::layout::PAGE_BYTES;
 use crate::layout::SIZE_LESS_1;
 use crate::names::Name;
 use crate::names::padded;
+use flash::PAGE_BYTES;
 
 /// The number that a data page has, for whoever looks at single pages.
 pub fn page_number(page: &[u8; PAGE_BYTES]) -> u32

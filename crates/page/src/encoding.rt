@@ -22,7 +22,7 @@ use crate::fields::PageFault;
 use crate::layout::CHUNK_AT;
 use crate::layout::NAME_AT;
 use crate::layout::ONES;
-use crate::layout::PAGE_BYTES;
+use flash::PAGE_BYTES;
 
 // The byte at which each part starts.
 

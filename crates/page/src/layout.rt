@@ -1,8 +1,6 @@
 // Where each field of a page stands, and how large its parts are.
 use crate::bits::Bits;
 
-/// The bytes of a page.
-pub const PAGE_BYTES: usize = 256;
 /// The bytes of the zero count, which it does not count itself.
 pub const COUNT_BYTES: usize = 2;
 /// The most bytes that a name has.

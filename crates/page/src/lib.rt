@@ -13,6 +13,7 @@ mod fields;
 mod fitting;
 mod layout;
 mod names;
+mod tearing;
 mod worked;
 
 pub use code::PageState;
@@ -44,11 +45,12 @@ pub use layout::CHUNK_LIMIT;
 pub use layout::GROUP_LIMIT;
 pub use layout::LENGTH_LIMIT;
 pub use layout::NAME_BYTES;
-pub use layout::PAGE_BYTES;
 pub use names::Name;
 pub use names::NameDebug;
 pub use names::NamePartialEq;
 pub use names::name_allowed;
+pub use tearing::torn_erase_only_takes_pages_away;
+pub use tearing::torn_program_adds_no_other_page;
 pub use worked::worked_pages;
 
 #[cfg(test)]

@@ -5,7 +5,6 @@ use crate::EntryKind;
 use crate::EntryPartialEq;
 use crate::Header;
 use crate::Name;
-use crate::PAGE_BYTES;
 use crate::Page;
 use crate::PageFault;
 use crate::PageFaultDebug;
@@ -17,6 +16,7 @@ use crate::decode;
 use crate::encode;
 use crate::page_number;
 use crate::page_state;
+use flash::PAGE_BYTES;
 use std::test::*;
 
 fn boot_log() -> Result<Entry, Fail> {

@@ -34,17 +34,20 @@ loop-place-again g c =
     let chip = g .F·ReadFlash .chip (c .args .flash .now) in
     let read = c .in-Continue-read .ensures tt in
     let more = between-more (chip .pages) (c .args .first) (c .loop-place .place) [] (omega arith) (read .1) in
-    let added = c .add .ensures (between (c .args .first) (c .loop-place .place) (chip .pages)) (c .loop-place .inv .0) in
-    (subst (λ ps. Counted ps (c .add .last .self)) (ap (λ q. between (c .args .first) (c .loop-place .place) (chip .pages) ++ q ∷ []) (read .2) ∙ sym more) added,
+    let added = c .add .ensures (between (c .args .first) (c .loop-place .place) (chip .pages)) (c .loop-place .inv .0) in (
+      subst (λ ps. Counted ps (c .add .last .self)) (ap (λ q. between (c .args .first) (c .loop-place .place) (chip .pages) ++ q ∷ []) (read .2) ∙ sym more) added,
       λ _. (read .0, omega (arith, read .1)),
-      λ past. absurd (omega arith))
+      λ past. absurd (omega arith),
+    )
 
 pub returns : need.returns
 returns g c =
     let chip = g .F·ReadFlash .chip (c .args .flash .now) in
     elim (decLe (c .args .first) (c .args .end)) [
-      yes le ↦ (let e : c .loop-place .place ≡ c .args .end = omega arith in
-        (subst (λ i. Counted (between (c .args .first) i (chip .pages)) (c .loop-place .census)) e (c .loop-place .inv .0),
-          λ lt. let inv = c .loop-place .inv .1 (omega arith) in (inv .0, omega (arith, inv .1))))
-    | no gt ↦ (let none : c .loop-place .place - c .args .first ≡ c .args .end - c .args .first = omega (arith, c .loop-place .inv .2 (omega arith)) in
-        (subst (λ n. Counted (take n (drop (c .args .first) (chip .pages))) (c .loop-place .census)) none (c .loop-place .inv .0), λ lt. absurd (omega arith))) ]
+      | yes le ↦ (let e : c .loop-place .place ≡ c .args .end = omega arith in (
+        subst (λ i. Counted (between (c .args .first) i (chip .pages)) (c .loop-place .census)) e (c .loop-place .inv .0),
+        λ lt. let inv = c .loop-place .inv .1 (omega arith) in (inv .0, omega (arith, inv .1)),
+      ))
+      | no gt ↦ (let none : c .loop-place .place - c .args .first ≡ c .args .end - c .args .first = omega (arith, c .loop-place .inv .2 (omega arith)) in
+          (subst (λ n. Counted (take n (drop (c .args .first) (chip .pages))) (c .loop-place .census)) none (c .loop-place .inv .0), λ lt. absurd (omega arith)))
+    ]

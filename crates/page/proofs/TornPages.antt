@@ -11,8 +11,7 @@ use lib.Bits.{bitAnd, bitXor, differ, and-step, xor-step, and-self, and-comm, an
 use lib.ListN.{length, getD, replicate}
 use Rattle.std.proofs.shelf.Bits.{and-mask, pow-pos}
 use Rattle.std.proofs.shelf.Lists.{ext-getD, getD-past, getD-replicate, length-replicate}
-use Rattle.flash.specs.Chip.{Chip, Formed, InBlock, Mixed, Torn, page, cleared, programmed, erased}
-use Rattle.flash.specs.Chip.{blank as all-ones}
+use Rattle.flash.specs.Chip.{Chip, Formed, InBlock, Mixed, Torn, blank, page, cleared, programmed, erased}
 use Rattle.flash.proofs.Chips.{programmed-here, programmed-else}
 use Rattle.flash.proofs.Clearing.{cleared-at}
 use Rattle.flash.proofs.Erasing.{erased-below, erased-inside, erased-above}
@@ -39,8 +38,9 @@ xor-none (suc k) a b la lb e =
     let s : bitXor a b ≡ bitXor (a / 2) (b / 2) * 2 + differ (a % 2) (b % 2) = xor-step a b in
     let half : a / 2 ≡ b / 2 = xor-none k (a / 2) (b / 2) (omega arith) (omega arith) (omega arith) in
     elim (differ-bit (a % 2) (b % 2) (omega arith) (omega arith)) [
-      inl same ↦ omega (arith, same .0)
-    | inr other ↦ absurd (omega (arith, other .1)) ]
+      | inl same ↦ omega (arith, same .0)
+      | inr other ↦ absurd (omega (arith, other .1))
+    ]
 
 -- each bit of s is that of x, or 1
 pub mixed-rose : (k s x : ℕ) → s < 2 ^ k → x < 2 ^ k → bitAnd (bitXor s x) (bitXor s (2 ^ k - 1)) ≡ 0 → bitAnd x s ≡ x
@@ -60,11 +60,12 @@ mixed-rose (suc k) s x ls lx e =
     let half-a : bitXor s x / 2 ≡ bitXor (s / 2) (x / 2) = omega arith in
     let half-b : bitXor s (2 ^ suc k - 1) / 2 ≡ bitXor (s / 2) (2 ^ k - 1) = (let h : bitXor s (2 ^ suc k - 1) / 2 ≡ bitXor (s / 2) ((2 ^ suc k - 1) / 2) = omega arith in h) ∙ ap (λ i. bitXor (s / 2) i) mh in
     let none : bitAnd (bitXor (s / 2) (x / 2)) (bitXor (s / 2) (2 ^ k - 1)) ≡ 0 =
-        ap (λ i. bitAnd i (bitXor (s / 2) (2 ^ k - 1))) (sym half-a) ∙ ap (λ i. bitAnd (bitXor s x / 2) i) (sym half-b) ∙ (let z : bitAnd (bitXor s x / 2) (bitXor s (2 ^ suc k - 1) / 2) ≡ 0 = omega arith in z) in
+    ap (λ i. bitAnd i (bitXor (s / 2) (2 ^ k - 1))) (sym half-a) ∙ ap (λ i. bitAnd (bitXor s x / 2) i) (sym half-b) ∙ (let z : bitAnd (bitXor s x / 2) (bitXor s (2 ^ suc k - 1) / 2) ≡ 0 = omega arith in z) in
     let ih : bitAnd (x / 2) (s / 2) ≡ x / 2 = mixed-rose k (s / 2) (x / 2) (omega arith) (omega arith) none in
     let up : x % 2 ≤ s % 2 = elim da [
-        inl same ↦ omega (arith, same .0)
-      | inr other ↦ elim db [ inl same ↦ omega (arith, same .0) | inr both ↦ (omega (arith, other .0, other .1, both .0, both .1)) ] ] in
+      | inl same ↦ omega (arith, same .0)
+      | inr other ↦ elim db [ inl same ↦ omega (arith, same .0) | inr both ↦ (omega (arith, other .0, other .1, both .0, both .1)) ]
+    ] in
     omega arith
 
 -- bytes whose bits are those of xs or 1 are xs risen
@@ -73,9 +74,10 @@ raised : (xs ys : List ℕ) → length ys ≡ length xs → ((k : ℕ) → getD 
 raised [] [] l bx by m = tt
 raised [] (y ∷ ys) l bx by m = absurd (omega arith)
 raised (x ∷ xs) [] l bx by m = absurd (omega arith)
-raised (x ∷ xs) (y ∷ ys) l bx by m =
-    (record { from-byte = bx 0; to-byte = by 0; kept = mixed-rose 8 y x (by 0) (bx 0) (m 0 (omega arith)) },
-      raised xs ys (omega arith) (λ k. bx (suc k)) (λ k. by (suc k)) (λ k h. m (suc k) (omega arith)))
+raised (x ∷ xs) (y ∷ ys) l bx by m = (
+  record { from-byte = bx 0; to-byte = by 0; kept = mixed-rose 8 y x (by 0) (bx 0) (m 0 (omega arith)) },
+  raised xs ys (omega arith) (λ k. bx (suc k)) (λ k. by (suc k)) (λ k h. m (suc k) (omega arith)),
+)
 
 -- a page on the way from itself to itself is itself
 unmixed : (x s : List ℕ) → ((k : ℕ) → getD x k 0 < 256) → ((k : ℕ) → getD s k 0 < 256) → Mixed x x s → s ≡ x
@@ -87,46 +89,51 @@ untouched : (n : ℕ) (c f d : Chip) (q : ℕ) → Formed n c → Formed n d →
 untouched n c f d q fc fd t same = unmixed (page c q) (page d q) (fc .bytes q) (fd .bytes q) (subst (λ y. Mixed (page c q) y (page d q)) same (t .mixed q))
 
 -- a blank page cleared by bytes is those bytes
-blank-cleared : (w : List ℕ) (k : ℕ) → length w ≡ 256 → ((j : ℕ) → getD w j 0 < 256) → k < 256 → getD (cleared all-ones w) k 0 ≡ getD w k 0
+blank-cleared : (w : List ℕ) (k : ℕ) → length w ≡ 256 → ((j : ℕ) → getD w j 0 < 256) → k < 256 → getD (cleared blank w) k 0 ≡ getD w k 0
+unfolding blank
 blank-cleared w k l bw h =
     let small : getD w k 0 < 256 = bw k in
-    let long : length all-ones ≡ 256 = length-replicate {A = ℕ} 256 255 in
-    cleared-at all-ones w k (omega (arith, long)) (omega arith) ∙ ap (λ i. bitAnd i (getD w k 0)) (getD-replicate 256 k 255 0 h)
+    let long : length blank ≡ 256 = length-replicate {A = ℕ} 256 255 in
+    cleared-at blank w k (omega (arith, long)) (omega arith) ∙ ap (λ i. bitAnd i (getD w k 0)) (getD-replicate 256 k 255 0 h)
     ∙ and-comm 255 (getD w k 0) ∙ and-mask (getD w k 0) 8 ∙ (let z : getD w k 0 % 256 ≡ getD w k 0 = omega arith in z)
 
 pub torn-program : Torn-program-adds-none
-torn-program n c d p w fc fd h blank long bw settled t =
+unfolding blank
+torn-program n c d p w fc fd h empty long bw settled t =
     let wide-d : length (page d p) ≡ 256 = fd .wide p (omega (arith, t .long)) in
-    let final : page (programmed c p w) p ≡ cleared all-ones w = programmed-here c p w h ∙ ap (λ o. cleared o w) blank in
-    let mix : Mixed all-ones (cleared all-ones w) (page d p) =
-        subst (λ o. Mixed o (cleared all-ones w) (page d p)) blank (subst (λ f. Mixed (page c p) f (page d p)) final (t .mixed p)) in
+    let final : page (programmed c p w) p ≡ cleared blank w = programmed-here c p w h ∙ ap (λ o. cleared o w) empty in
+    let mix : Mixed blank (cleared blank w) (page d p) =
+    subst (λ o. Mixed o (cleared blank w) (page d p)) empty (subst (λ f. Mixed (page c p) f (page d p)) final (t .mixed p)) in
     let rose : Raised w (page d p) = raised w (page d p) (wide-d ∙ sym long) bw (fd .bytes p)
-        (λ k l. let k256 : k < 256 = omega arith in
-          and-comm (bitXor (getD (page d p) k 0) (getD w k 0)) (bitXor (getD (page d p) k 0) 255)
-          ∙ ap (λ i. bitAnd (bitXor (getD (page d p) k 0) i) (bitXor (getD (page d p) k 0) (getD w k 0))) (sym (getD-replicate 256 k 255 0 k256))
-          ∙ ap (λ i. bitAnd (bitXor (getD (page d p) k 0) (getD all-ones k 0)) (bitXor (getD (page d p) k 0) i)) (sym (blank-cleared w k long bw k256))
-          ∙ mix .1 k) in
+    (λ k l. let k256 : k < 256 = omega arith in
+    and-comm (bitXor (getD (page d p) k 0) (getD w k 0)) (bitXor (getD (page d p) k 0) 255)
+    ∙ ap (λ i. bitAnd (bitXor (getD (page d p) k 0) i) (bitXor (getD (page d p) k 0) (getD w k 0))) (sym (getD-replicate 256 k 255 0 k256))
+    ∙ ap (λ i. bitAnd (bitXor (getD (page d p) k 0) (getD blank k 0)) (bitXor (getD (page d p) k 0) i)) (sym (blank-cleared w k long bw k256))
+    ∙ mix .1 k) in
     let law = rising-spoils w (page d p) long rose settled in
     record { settled = law .0; whole = law .1; others = λ q ne. untouched n c (programmed c p w) d q fc fd t (programmed-else c p q w ne) }
 
 pub torn-erase : Torn-erase-adds-none
+unfolding blank
 torn-erase n c d b fc fd h settled t =
     let within = block-within n c b (shaped n c fc) h in
     let law : (q : ℕ) → InBlock c b q → Settled (page d q) × (is-data (page d q) ≡ true → page d q ≡ page c q) =
-        λ q inside.
-          let here : q < length (c .pages) = omega (arith, within, inside .1) in
-          let wide-c : length (page c q) ≡ 256 = fc .wide q here in
-          let wide-d : length (page d q) ≡ 256 = fd .wide q (omega (arith, t .long)) in
-          let mix = subst (λ f. Mixed (page c q) f (page d q)) (erased-inside c b within q (inside .0) (inside .1)) (t .mixed q) in
-          let rose : Raised (page c q) (page d q) = raised (page c q) (page d q) (wide-d ∙ sym wide-c) (fc .bytes q) (fd .bytes q)
-              (λ k l. ap (λ i. bitAnd (bitXor (getD (page d q) k 0) (getD (page c q) k 0)) (bitXor (getD (page d q) k 0) i)) (sym (getD-replicate 256 k 255 0 (let m : k < 256 = omega arith in m))) ∙ mix .1 k) in
-          rising-spoils (page c q) (page d q) wide-c rose (settled q inside) in
+    λ q inside.
+    let here : q < length (c .pages) = omega (arith, within, inside .1) in
+    let wide-c : length (page c q) ≡ 256 = fc .wide q here in
+    let wide-d : length (page d q) ≡ 256 = fd .wide q (omega (arith, t .long)) in
+    let mix = subst (λ f. Mixed (page c q) f (page d q)) (erased-inside c b within q (inside .0) (inside .1)) (t .mixed q) in
+    let rose : Raised (page c q) (page d q) = raised (page c q) (page d q) (wide-d ∙ sym wide-c) (fc .bytes q) (fd .bytes q)
+    (λ k l. ap (λ i. bitAnd (bitXor (getD (page d q) k 0) (getD (page c q) k 0)) (bitXor (getD (page d q) k 0) i)) (sym (getD-replicate 256 k 255 0 (let m : k < 256 = omega arith in m))) ∙ mix .1 k) in
+    rising-spoils (page c q) (page d q) wide-c rose (settled q inside) in
     record {
       settled = λ q inside. law q inside .0;
       whole = λ q inside. law q inside .1;
       others = λ q outside. untouched n c (erased c b) d q fc fd t (elim (decLt q (c .per-block * b)) [
-          yes below ↦ erased-below c b within q below
+        | yes below ↦ erased-below c b within q below
         | no ge ↦ elim (decLt q (c .per-block * b + c .per-block)) [
-            yes lt ↦ absurd (outside (omega arith, lt))
-          | no past ↦ erased-above c b within q (omega arith) ] ]);
+          | yes lt ↦ absurd (outside (omega arith, lt))
+          | no past ↦ erased-above c b within q (omega arith)
+        ]
+      ]);
     }
