@@ -1,6 +1,7 @@
 pub mod Chips
 pub mod Clearing
 pub mod Erasing
+pub mod Filling
 pub mod Fusing
 pub mod Images
 pub mod ImageWrites

@@ -14,7 +14,7 @@ use Rattle.std.specs.declared.result.Result.{Result}
 use Rattle.std.specs.declared.result.Result.the-variants.{Ok, Err}
 use Rattle.flash.specs.declared.fault.FlashFault.{FlashFault}
 use Rattle.flash.specs.declared.fault.FlashFault.the-variants.{Off, Range, Program, Erase}
-use Rattle.flash.specs.Chip.{Chip, Torn, Mixed, page, blank, cleared, programmed, erased}
+use Rattle.flash.specs.Chip.{Chip, Torn, Mixed, filled, page, blank, cleared, programmed, erased}
 use Rattle.flash.specs.Joined.{joined, joined-blocks, retold}
 use Rattle.flash.specs.Joins.{Shaped, first-within, joined-long, look-first, look-second, look-past, second-within}
 use Rattle.flash.specs.Says.{Reads, Programs, Erases}
@@ -215,14 +215,14 @@ module _ (n : ℕ) (a b : Chip) (sa : Shaped n a) (sb : Shaped n b) (aon : a .on
   in-joined p h = omega (arith, joined-long n a b sa sb, first-within n a b sa sb, sa .paged)
 
   pub reads-first : (p : ℕ) (x y : List ℕ) (r : Answer) → p < length (a .pages) → Reads a p x r y → Reads (joined a b) p x r y
-  reads-first p x y (Ok u) h s = (on, in-joined p h, s .2 ∙ sym (look-first n a b sa sb p h))
+  reads-first p x y (Ok u) h s = (on, in-joined p h, s .2 ∙ ap (filled x) (sym (look-first n a b sa sb p h)))
   reads-first p x y (Err Off) h s = never a aon (s .0)
   reads-first p x y (Err Range) h s = absurd (omega arith)
   reads-first p x y (Err (Program q)) h s = s
   reads-first p x y (Err (Erase q)) h s = s
 
   pub reads-second : (p : ℕ) (x y : List ℕ) (r : Answer) → length (a .pages) ≤ p → p < n * joined-blocks a b → Reads b (p - length (a .pages)) x r y → Reads (joined a b) p x r y
-  reads-second p x y (Ok u) g h s = (on, omega (arith, joined-long n a b sa sb), s .2 ∙ sym (look-second n a b sa sb p g h))
+  reads-second p x y (Ok u) g h s = (on, omega (arith, joined-long n a b sa sb), s .2 ∙ ap (filled x) (sym (look-second n a b sa sb p g h)))
   reads-second p x y (Err Off) g h s = never b bon (s .0)
   reads-second p x y (Err Range) g h s = absurd (omega (arith, s .1, second-within n a b sa sb p g h))
   reads-second p x y (Err (Program q)) g h s = s

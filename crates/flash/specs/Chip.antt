@@ -40,6 +40,10 @@ with-pages c ps = record { per-block = c .per-block; blocks = c .blocks; pages =
 abbrev pub powered : Chip → Bool → Chip
 powered c on = record { per-block = c .per-block; blocks = c .blocks; pages = c .pages; on = on }
 
+-- a buffer that takes in as much of these bytes as it has room for; what it has beyond them stays
+abbrev pub filled : List ℕ → List ℕ → List ℕ
+filled before bytes = take (length before) bytes ++ drop (length bytes) before
+
 -- each bit ends as old AND given
 abbrev pub cleared : List ℕ → List ℕ → List ℕ
 cleared [] given = []

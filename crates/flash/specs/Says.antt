@@ -8,11 +8,11 @@ use Rattle.std.specs.declared.result.Result.{Result}
 use Rattle.std.specs.declared.result.Result.the-variants.{Ok, Err}
 use Rattle.flash.specs.declared.fault.FlashFault.{FlashFault}
 use Rattle.flash.specs.declared.fault.FlashFault.the-variants.{Off, Range, Program, Erase}
-use Rattle.flash.specs.Chip.{Chip, Torn, page, programmed, erased}
+use Rattle.flash.specs.Chip.{Chip, Torn, filled, page, programmed, erased}
 
 -- the page p of c is read into a buffer that held `before` and then holds `after`
 abbrev pub Reads : Chip → ℕ → List ℕ → Result (Unit {0}) FlashFault → List ℕ → Type 0
-Reads c p before (Ok _) after = (c .on ≡ true) × (p < length (c .pages)) × (after ≡ page c p)
+Reads c p before (Ok _) after = (c .on ≡ true) × (p < length (c .pages)) × (after ≡ filled before (page c p))
 Reads c p before (Err Off) after = (c .on ≡ false) × (after ≡ before)
 Reads c p before (Err Range) after = (c .on ≡ true) × (length (c .pages) ≤ p) × (after ≡ before)
 Reads c p before (Err (Program q)) after = ⊥

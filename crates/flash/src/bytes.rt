@@ -2,7 +2,7 @@
 ghost use mathlib.Core.Path.{_≡_};
 ghost use Prim.Native.Nat.{_+_, _*_, _<_, _≤_};
 ghost use lib.ListN.{length, take, drop, replicate};
-ghost use Rattle.flash.specs.Chip.{cleared};
+ghost use Rattle.flash.specs.Chip.{cleared, filled};
 ghost use Rattle.flash.specs.Image.{image-blocks, octets};
 use crate::traits::MOST_BLOCKS;
 use crate::traits::PAGE_BYTES;
@@ -18,13 +18,13 @@ pub(crate) fn blocks_in(bytes: &[u8]) -> usize
     (bytes.len() / IMAGE_BLOCK_BYTES).min(MOST_BLOCKS)
 }
 
-// Copies the page out of the bytes that hold it.
-pub(crate) fn copy_page_out(bytes: &[u8], page: usize, out: &mut [u8; 256])
+// Copies the page, as far as `out` has room, out of the bytes that hold it.
+pub(crate) fn copy_page_out(bytes: &[u8], page: usize, out: &mut [u8])
     requires { ⌜ 256 * page + 256 ≤ length (now bytes) ⌝ }
-    ensures { λ _. ⌜ now (out .exit) ≡ take 256 (drop (256 * page) (octets (now (bytes .entry)))) ⌝ }
+    ensures { λ _. ⌜ now (out .exit) ≡ filled (now (out .entry)) (take 256 (drop (256 * page) (octets (now (bytes .entry))))) ⌝ }
 {
     let at = page * PAGE_BYTES;
-    for k in 0..PAGE_BYTES {
+    for k in 0..PAGE_BYTES.min(out.len()) {
         out[k] = bytes[at + k];
     }
 }

@@ -49,7 +49,7 @@ pub impl<'a> ReadFlash for DumpFlash<'a> as DumpReadFlash {
         true
     }
 
-    fn read(&self, page: usize, out: &mut [u8; 256]) -> Result<(), FlashFault> {
+    fn read(&self, page: usize, out: &mut [u8]) -> Result<(), FlashFault> {
         if page >= Self::PAGES_PER_BLOCK * self.blocks() {
             return Err(FlashFault::Range);
         }

@@ -100,7 +100,7 @@ pub impl<'a> ReadFlash for ImageFlash<'a> as ImageReadFlash {
         self.on
     }
 
-    fn read(&self, page: usize, out: &mut [u8; 256]) -> Result<(), FlashFault> {
+    fn read(&self, page: usize, out: &mut [u8]) -> Result<(), FlashFault> {
         admit(self.on, page < Self::PAGES_PER_BLOCK * self.blocks())?;
         copy_page_out(self.bytes, page, out);
         Ok(())

@@ -48,7 +48,7 @@ pub impl<A: ReadFlash, B: ReadFlash> ReadFlash for JoinedFlash<A, B> as JoinedRe
         self.first.is_on() && self.second.is_on()
     }
 
-    fn read(&self, page: usize, out: &mut [u8; 256]) -> Result<(), FlashFault> {
+    fn read(&self, page: usize, out: &mut [u8]) -> Result<(), FlashFault> {
         admit(self.is_on(), page < A::block_pages() * self.blocks())?;
         let split = A::block_pages() * self.first.blocks();
         if page < split {

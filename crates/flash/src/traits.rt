@@ -36,8 +36,8 @@ pub trait ReadFlash {
     fn is_on(&self) -> bool
         ensures { λ r. ⌜ r ≡ chip (now (self .entry)) .on ⌝ };
 
-    /// Copies one page out. A refusal leaves `out` as it was.
-    fn read(&self, page: usize, out: &mut [u8; 256]) -> Result<(), FlashFault>
+    /// Copies one page out: its 256 bytes, or as many as `out` has room for. A refusal leaves `out` as it was.
+    fn read(&self, page: usize, out: &mut [u8]) -> Result<(), FlashFault>
         ensures { λ r. ⌜ Reads (chip (now (self .entry))) page (now (out .entry)) r (now (out .exit)) ⌝ };
 }
 

@@ -8,6 +8,8 @@ use lib.ListN.{length, getD, take, drop}
 use Rattle.std.specs.shelf.Lists.{between}
 use Rattle.std.proofs.shelf.Edits.{between-more, length-between}
 use Rattle.std.proofs.shelf.Sums.{countBy-le-length}
+use Rattle.flash.specs.Chip.{page}
+use Rattle.flash.proofs.Filling.{filled-whole}
 use Rattle.page.specs.declared.code.PageState.{PageState}
 use Rattle.page.specs.declared.code.PageState.the-variants.{Erased, Data, Spoilt}
 use Rattle.page.specs.Code.{state-of}
@@ -32,12 +34,14 @@ add-requires g c κs =
 pub loop-place-again : need.loop-place-again
 loop-place-again g c =
     let chip = g .F·ReadFlash .chip (c .args .flash .now) in
+    let formed = g .F·ReadFlash .formed (c .args .flash .now) in
     let read = c .in-Continue-read .ensures tt in
     let more = between-more (chip .pages) (c .args .first) (c .loop-place .place) [] (omega arith) (read .1) in
     let added = c .add .ensures (between (c .args .first) (c .loop-place .place) (chip .pages)) (c .loop-place .inv .0) in (
-      subst (λ ps. Counted ps (c .add .last .self)) (ap (λ q. between (c .args .first) (c .loop-place .place) (chip .pages) ++ q ∷ []) (read .2) ∙ sym more) added,
+      subst (λ ps. Counted ps (c .add .last .self)) (ap (λ q. between (c .args .first) (c .loop-place .place) (chip .pages) ++ q ∷ []) (read .2 ∙ filled-whole (c .loop-place .page) (page chip (c .loop-place .place)) (c .loop-place .inv .3 ∙ sym (formed .wide (c .loop-place .place) (read .1)))) ∙ sym more) added,
       λ _. (read .0, omega (arith, read .1)),
       λ past. absurd (omega arith),
+      c .read .kept .out ∙ c .loop-place .inv .3,
     )
 
 pub returns : need.returns

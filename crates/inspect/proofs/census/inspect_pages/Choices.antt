@@ -11,3 +11,4 @@ Inv-loop-place g l =
     Counted (between (l .first) (l .place) (g .F·ReadFlash .chip (l .flash) .pages)) (l .census)
     × (l .first < l .place → (g .F·ReadFlash .chip (l .flash) .on ≡ true) × (l .place ≤ length (g .F·ReadFlash .chip (l .flash) .pages)))
     × (l .end ≤ l .first → l .place ≡ l .first)
+    × (length (l .page) ≡ 256)

@@ -3,6 +3,7 @@ use mathlib.Core.Bool.{true}
 use Prim.Native.Nat.{_*_, _<_}
 use native.Mathlib.Omega.{arith}
 use borrow.Author.Tests.{ltb-true, ltb-false}
+use Rattle.flash.specs.Chip.{filled}
 use Rattle.flash.specs.Cuts.{image-long, cut-at, image-fits, length-octets}
 use Rattle.flash.specs.Image.{image-blocks, image-chip, octets}
 use Rattle.flash.specs.Says.{Reads}
@@ -33,4 +34,4 @@ returns c =
     let xs = s .bytes .now in
     let within = ltb-true (c .args .page) (16 * c .blocks-2 .result) (c .in-Continue-admit .ensures tt .1) in
     let h : c .args .page < 16 * image-blocks xs = omega arith in
-    (c .in-Continue-admit .ensures tt .0, omega (arith, image-long xs (s .on)), c .copy-page-out .ensures ∙ sym (cut-at (16 * image-blocks xs) (c .args .page) (octets xs) h))
+    (c .in-Continue-admit .ensures tt .0, omega (arith, image-long xs (s .on)), c .copy-page-out .ensures ∙ ap (filled (c .args .out .now)) (sym (cut-at (16 * image-blocks xs) (c .args .page) (octets xs) h)))
