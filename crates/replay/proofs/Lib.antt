@@ -1,0 +1,2 @@
+pub mod Base
+pub mod Chips
