@@ -1,5 +1,11 @@
 // Writes a chip image of four blocks to standard output: a format's note, a directory /cal, a file
 // /cal/arc of three bytes, and a deletion whose program lost power after nine bytes.
+ghost use Prim.Native.Nat.{min};
+ghost use Rattle.page.specs.Names.{allowed, named};
+ghost use Rattle.page.specs.declared.fields.Content.the-variants as content;
+ghost use Rattle.std.specs.Vec.{made};
+ghost use mathlib.Core.Bool.{true};
+ghost use mathlib.Core.Path.{_≡_};
 use flash::Flash;
 use flash::FlashFault;
 use flash::Fuse;
@@ -27,7 +33,9 @@ const CAL: u32 = 2;
 
 const ARC: u32 = 3;
 
-fn header(number: u32, index: u8, size: u8, file: u32) -> Header {
+fn header(number: u32, index: u8, size: u8, file: u32) -> Header
+    ensures { λ r. ⌜ r ≡ record { index = index; size = size; number = number; floor = min number 2; file = file } ⌝ }
+{
     Header {
         index,
         size,
@@ -37,7 +45,9 @@ fn header(number: u32, index: u8, size: u8, file: u32) -> Header {
     }
 }
 
-fn entry(directory: u32, kind: EntryKind, length: u16, name: &[u8]) -> Result<Content, AnyError> {
+fn entry(directory: u32, kind: EntryKind, length: u16, name: &[u8]) -> Result<Content, AnyError>
+    ensures { λ r. ⌜ made r (λ c. (allowed (now (name .entry)) ≡ true) × (c ≡ content.Entry (record { directory = directory; kind = kind; length = length; name = named (now (name .entry)) }))) ⌝ }
+{
     let Some(name) = Name::new(name) else {
         return Err("a name that is not allowed".into());
     };

@@ -1,4 +1,9 @@
 // Reads a chip image from standard input and prints what each of its blocks holds.
+ghost use mathlib.Core.Bool.{true};
+ghost use Rattle.flash.specs.Image.{image-chip};
+ghost use Rattle.inspect.specs.Counted.{Inspects};
+ghost use Rattle.std.specs.Vec.{made};
+ghost use Rattle.std.specs.declared.result.Result.the-variants.{Ok};
 use flash::DumpFlash;
 use flash::DumpReadFlash;
 use flash::ReadFlash;
@@ -7,7 +12,10 @@ use inspect::inspect_pages;
 use std::error::AnyError;
 use std::io::Read;
 
-fn counted(dump: &DumpFlash, first: usize, end: usize) -> Result<Census, AnyError> {
+// The pages from `first` up to `end`: a dump is always on, so only a page past its end is refused.
+fn counted(dump: &DumpFlash, first: usize, end: usize) -> Result<Census, AnyError>
+    ensures { λ r. ⌜ made r (λ census. Inspects (image-chip (now (now (dump .entry) .bytes)) true) first end (Ok census)) ⌝ }
+{
     let Ok(census) = inspect_pages(dump, first, end) else {
         return Err("the image cannot be read".into());
     };
