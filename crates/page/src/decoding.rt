@@ -3,7 +3,6 @@ ghost use mathlib.Core.Path.{_≡_};
 ghost use Rattle.page.specs.Bits.{field};
 ghost use Rattle.page.specs.Decoded.{checked as checked-page, decoded};
 ghost use Rattle.page.specs.Fields.{chunk-at, content-at, entry-at, header-at, kind-at, name-at};
-use crate::bits::Bits;
 use crate::bits::read;
 use crate::code::is_data;
 use crate::fields::Chunk;

@@ -8,9 +8,9 @@ ghost use Rattle.std.specs.Orderings.{Decides};
 ghost use Rattle.page.specs.Names.{allowed, dots, is-padded, name-byte, name-bytes, name-fits, name-text, named, padded as padded-list};
 use crate::layout::NAME_BYTES;
 
-// The bytes of a name are visible: neither blank nor control.
+/// The first visible byte, after the blank.
 const FIRST_BYTE: u8 = 0x21;
-
+/// The last visible byte, before the delete.
 const LAST_BYTE: u8 = 0x7e;
 
 /// A name, in a value of one size. The places past its length hold 0, so equal names are equal values.
