@@ -62,14 +62,17 @@ module _ (c d : Chip) (b : ℕ) (less : Less c d b) where
 pub free-block-tells-nothing : Free-block-tells-nothing
 free-block-tells-nothing c d b t distinct top free apart less =
     let out : InBlock c b (t .place) → ⊥ = λ inside. omega (arith, free t (top .here) inside, floor-low c t (top .here)) in
-    let top-d : Top (Log-of d) t = record { here = kept c d b less t out (top .here); highest = λ p m. top .highest p (back c d b less p m) } in
-    (top-d,
+    let top-d : Top (Log-of d) t = record { here = kept c d b less t out (top .here); highest = λ p m. top .highest p (back c d b less p m) } in (
+      top-d,
       same-top t t distinct (λ p q x y e. distinct p q (back c d b less p x) (back c d b less q y) e) top top-d
-        (free-alike c d b less (floor-of t) free apart))
+          (free-alike c d b less (floor-of t) free apart),
+    )
 
 pub cut-short-group-does-not-count : Cut-short-group-does-not-count
-cut-short-group-does-not-count p q f np ip sp nq iq sq low =
-    (record { here = inr refl; high = omega arith; whole = λ k lt. (q, inr refl, record { numbered = omega arith; indexed = omega arith; sized = refl }) },
-      λ c. let (r, here, part) = c .whole 1 (omega arith) in elim here [
-          inl e ↦ omega (arith, part .indexed, ap index-of e)
-        | inr e ↦ omega (arith, part .indexed, ap index-of e) ])
+cut-short-group-does-not-count p q f np ip sp nq iq sq low = (
+  record { here = inr refl; high = omega arith; whole = λ k lt. (q, inr refl, record { numbered = omega arith; indexed = omega arith; sized = refl }) },
+  λ c. let (r, here, part) = c .whole 1 (omega arith) in elim here [
+    | inl e ↦ omega (arith, part .indexed, ap index-of e)
+    | inr e ↦ omega (arith, part .indexed, ap index-of e)
+  ],
+)

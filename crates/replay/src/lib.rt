@@ -1,8 +1,10 @@
 //! What a chip shows: replay of its data pages as a relation, without an order of steps, and what it
 //! does not depend on.
 
+mod group;
 mod laws;
 
+pub use group::Group;
 pub use laws::cut_short_group_does_not_count;
 pub use laws::free_block_tells_nothing;
 pub use laws::only_data_tells;
