@@ -1,29 +1,11 @@
-//! One search, written once for any record with a key: keys of objects, tree entries and handles are
-//! all found by it.
+//! Tables without a heap: one search, written once for any record with a key, and one way to put a
+//! record between others. Keys of objects, tree entries and handles are all found by it.
 
-ghost use Rattle.lookup.specs.Found.{Found};
-ghost use Rattle.std.specs.Orderings.{Decides};
-ghost use mathlib.Core.Path.{_≡_};
+mod search;
+mod sorted;
 
-/// A record that is found by its key.
-pub trait Keyed {
-    type Key;
-
-    ghost keyed: { Self → Self·Key };
-
-    /// Whether the record has this key.
-    fn has(&self, key: &Self::Key) -> bool
-        ensures { λ r. ⌜ Decides r (keyed (now (self .entry)) ≡ now (key .entry)) ⌝ };
-}
-
-/// The index of the first record with the key, or that there is none.
-pub fn find<R: Keyed>(records: &[R], key: &R::Key) -> Option<usize>
-    ensures { λ r. ⌜ Found (R·Keyed .keyed) (now (records .entry)) (now (key .entry)) r ⌝ }
-{
-    for (i, record) in records.iter().enumerate() {
-        if record.has(key) {
-            return Some(i);
-        }
-    }
-    None
-}
+pub use search::Keyed;
+pub use search::find;
+pub use sorted::Ranked;
+pub use sorted::insert_at;
+pub use sorted::leading;

@@ -1,0 +1,37 @@
+// Records in rising order, and putting one between others.
+ghost use mathlib.Core.Bool.{Bool};
+ghost use mathlib.Core.Path.{_≡_};
+ghost use Prim.Native.Nat.{ℕ};
+ghost use Rattle.lookup.specs.Inserts.{Inserts, Leads};
+
+/// A record that has a place in an order.
+pub trait Ranked {
+    ghost ranked: { Self → ℕ };
+
+    fn rank(&self) -> u64
+        ensures { λ r. ⌜ r ≡ ranked (now (self .entry)) ⌝ };
+}
+
+/// How many records lead, one after another, with a rank below this one.
+pub fn leading<R: Ranked>(records: &[R], rank: u64) -> usize
+    ensures { λ r. ⌜ Leads (R·Ranked .ranked) (now (records .entry)) rank r ⌝ }
+{
+    for (i, record) in records.iter().enumerate() {
+        if record.rank() >= rank {
+            return i;
+        }
+    }
+    records.len()
+}
+
+/// Puts `x` before the record at `at`, of the first `len` ones; false, and nothing changes, where there is no room.
+pub fn insert_at<T: Copy>(items: &mut [T], len: usize, at: usize, x: T) -> bool
+    ensures { λ r. ⌜ Inserts (now (items .entry)) len at x r (now (items .exit)) ⌝ }
+{
+    if len >= items.len() || at > len {
+        return false;
+    }
+    items[len] = x;
+    items[at..len + 1].rotate_right(1);
+    true
+}
