@@ -1,3 +1,4 @@
+pub mod Adding
 pub mod Base
 pub mod Chips
 pub mod Gathering

@@ -1,3 +1,5 @@
 pub mod Log
 pub mod Laws
 pub mod Gathered
+pub mod Faults
+pub mod Seen
