@@ -3,3 +3,4 @@ pub mod Laws
 pub mod Gathered
 pub mod Faults
 pub mod Seen
+pub mod Remembers

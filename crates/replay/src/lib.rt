@@ -2,6 +2,7 @@
 //! does not depend on.
 
 mod fault;
+mod gather;
 mod group;
 mod laws;
 mod seen;

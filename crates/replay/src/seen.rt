@@ -38,7 +38,7 @@ pub impl Ranked for Seen as SeenRanked {
 }
 
 // What a page says, by its kind.
-fn says_of(page: &Page) -> Says
+pub(crate) fn says_of(page: &Page) -> Says
     requires { ⌜ page-fits (now page) ≡ true ⌝ }
     ensures { λ r. ⌜ r ≡ says-by (now (page .entry) .header .file) (now (page .entry) .content) ⌝ }
 {
@@ -55,7 +55,7 @@ fn says_of(page: &Page) -> Says
 }
 
 // Puts a page among the first `len` ones, by its number; false where one has that number.
-fn add(seen: &mut [Seen], len: usize, new: Seen) -> bool
+pub(crate) fn add(seen: &mut [Seen], len: usize, new: Seen) -> bool
     requires { ⌜ len < length (now seen) ⌝ }
     ensures { λ r. ⌜ Adds (take len (now (seen .entry))) new r (take (len + 1) (now (seen .exit))) ⌝ }
 {
