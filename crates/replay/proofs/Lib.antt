@@ -1,2 +1,13 @@
 pub mod Base
+pub mod Erase
+pub mod Agree
+pub mod Counting
+pub mod Highest
+pub mod Putting
+pub mod Walking
+pub mod Groups
+pub mod Copies
+pub mod Scratched
+pub mod Newer
 pub mod Chips
+pub mod Listed
