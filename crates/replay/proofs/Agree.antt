@@ -1,7 +1,7 @@
 -- Two sets of counted pages tell the same: one has more pages, and these say only what is told; or one has the pages at or above a number.
 use mathlib.Core.Path.{_≡_, sym, _∙_, subst}
 use mathlib.Core.Logic.{_⊎_, inl, inr}
-use Prim.Native.Nat.{ℕ}
+use Prim.Native.Nat.{ℕ, _≤_}
 use native.Mathlib.Omega.{arith}
 use native.Mathlib.Decide.{decLe}
 use Rattle.object.specs.declared.key.Key.{Key}
@@ -10,7 +10,7 @@ use Rattle.page.specs.declared.fields.Content.{Content}
 use Rattle.page.specs.declared.fields.Content.the-variants.{Note, Gone}
 use Rattle.page.specs.declared.fields.Content.the-variants as content
 use Rattle.replay.specs.Log.{Log, Logged, number-of, entry-key, Speaks-by, Gives-by, Speaks, Gives, Shown, Told}
-use Rattle.replay.specs.Changes.{Above, High, Echo}
+use Rattle.replay.specs.Changes.{High, Echo}
 use Rattle.replay.proofs.Base.{Alike, told-by}
 
 speaks-by : (file : ℕ) (c : Content) (k : Key) (v : Object) → Gives-by file c k v → Speaks-by file c k
@@ -86,6 +86,10 @@ module _ (C D : Log) (more : (p : Logged) → C p → D p) (echo : (p : Logged) 
 
   pub agree : Alike C D
   agree k v = (told-by agree-to k v, told-by agree-from k v)
+
+-- the pages of C at or above g
+abbrev pub Above : Log → ℕ → Log
+Above C g p = C p × (g ≤ number-of p)
 
 -- the floor may rise to g, where each key that is told is shown by a page at or above g
 module _ (C : Log) (g : ℕ) (high : (k : Key) (v : Object) → Told C k v → High C g k v) where

@@ -7,11 +7,11 @@ use Rattle.object.specs.declared.value.Object.{Object}
 use Rattle.replay.specs.Log.{Log, Logged, floor-of, index-of, Counts, Told, Tells, Top, Distinct, Same}
 use Rattle.replay.specs.Changes.{On, Added, Group, Rises}
 use Rattle.replay.specs.Maps.{Puts}
-use Rattle.replay.specs.Walks.{Grown, Rising, Fits}
+use Rattle.replay.specs.Walks.{Rising, Fits}
 use Rattle.replay.specs.Crashes.{Unfinished-group, Finished-group}
 use Rattle.replay.proofs.Base.{Alike, alike-same, alike-trans, same-top, the-floor}
 use Rattle.replay.proofs.Counting.{risen, torn-alike, whole-from, whole-to}
-use Rattle.replay.proofs.Putting.{Iff, told-puts, puts-map, grown-to, grown-from}
+use Rattle.replay.proofs.Putting.{Iff, Grown, told-puts, puts-map, grown-to, grown-from}
 
 pub group-keeps : (L G M : Log) (t u : Logged) (base size j : ℕ) → Distinct L → Distinct M → Top L t → Top M u → Added L G M → Group L G base size
     → Rises L (floor-of t) (floor-of u) → j < size → ((q : Logged) → G q → index-of q ≡ j → ⊥) → Same L M

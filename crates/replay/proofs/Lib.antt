@@ -11,3 +11,5 @@ pub mod Scratched
 pub mod Newer
 pub mod Chips
 pub mod Listed
+pub mod Written
+pub mod Worked

@@ -14,7 +14,7 @@ use Rattle.page.specs.declared.fields.Content.the-variants as content
 use Rattle.replay.specs.Log.{Log, Logged, number-of, entry-key, chunk-key, Speaks-by, Gives-by, Speaks, Gives, Shown, Told}
 use Rattle.replay.specs.Changes.{On}
 use Rattle.replay.specs.Maps.{Map, Put-by, Put, Puts}
-use Rattle.replay.specs.Walks.{Step, With, Grown, Fit-by, Fit, Fits, Rising}
+use Rattle.replay.specs.Walks.{Step, With, Fit-by, Fit, Fits, Rising}
 use Rattle.replay.proofs.Agree.{gives-speaks}
 
 pub key-dec : (k j : Key) → Dec (k ≡ j)
@@ -168,6 +168,11 @@ put-map m n f file Gone k v h = (h .0, f k v (h .1))
 pub puts-map : (m n : Map) → ((k : Key) (v : Object) → m k v → n k v) → (ps : List Logged) (k : Key) (v : Object) → Puts m ps k v → Puts n ps k v
 puts-map m n f [] k v h = f k v h
 puts-map m n f (p ∷ ps) k v h = puts-map (Put m p) (Put n p) (put-map m n f (p .page .header .file) (p .page .content)) ps k v h
+
+-- C and some pages more
+abbrev pub Grown : Log → List Logged → Log
+Grown C [] = C
+Grown C (p ∷ ps) = Grown (With C p) ps
 
 pub told-puts : (C : Log) (ps : List Logged) (n : ℕ) → ((q : Logged) → C q → number-of q < n) → Rising n ps → Fits C ps
     → Iff (Told (Grown C ps)) (Puts (Told C) ps)

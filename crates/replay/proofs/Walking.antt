@@ -9,10 +9,10 @@ use Rattle.object.specs.declared.value.Object.{Object}
 use Rattle.replay.specs.Log.{Log, Logged, number-of, Counts, Shown}
 use Rattle.replay.specs.Changes.{On}
 use Rattle.replay.specs.Maps.{Map}
-use Rattle.replay.specs.Walks.{Step, Steps, Nothing, With, Grown, Rising}
+use Rattle.replay.specs.Walks.{Step, Steps, Nothing, With, Rising}
 use Rattle.replay.specs.Crashes.{Walk}
 use Rattle.replay.proofs.Base.{shown-same}
-use Rattle.replay.proofs.Putting.{Iff, step-to, step-from, grown-to, grown-from}
+use Rattle.replay.proofs.Putting.{Iff, Grown, step-to, step-from, grown-to, grown-from}
 
 steps-map : (m n : Map) → ((k : Key) (v : Object) → m k v → n k v) → (ps : List Logged) (k : Key) (v : Object) → Steps m ps k v → Steps n ps k v
 steps-map m n f [] k v h = f k v h

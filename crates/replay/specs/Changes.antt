@@ -36,10 +36,6 @@ pub record Group (L G : Log) (base size : ℕ) : Type 0 where
   pub numbered : (p : Logged) → G p → number-of p ≡ base + index-of p
   pub sized : (p : Logged) → G p → size-of p ≡ size
 
--- the pages of C at or above g
-abbrev pub Above : Log → ℕ → Log
-Above C g p = C p × (g ≤ number-of p)
-
 -- the key is shown by a page at or above g
 pub record High (C : Log) (g : ℕ) (k : Key) (v : Object) : Type 0 where
   pub shown : Shown C k v

@@ -20,7 +20,7 @@ abbrev pub Walk : Type 0
 Walk = (xs cs : List Logged) (f : ℕ) → ((p : Logged) → (On cs p → Counts (On xs) f p) × (Counts (On xs) f p → On cs p)) → Rising 0 cs
     → (k : Key) (v : Object) → (Shown (Counts (On xs) f) k v → Steps Nothing cs k v) × (Steps Nothing cs k v → Shown (Counts (On xs) f) k v)
 
--- a group that lacks a page changes nothing told, where its floor may rise
+-- a group that lacks a page changes nothing told, also with a higher floor below which no told key is shown
 abbrev pub Unfinished-group : Type 0
 Unfinished-group = (xs gs ys : List Logged) (t u : Logged) (base size j : ℕ) → Distinct (On xs) → Distinct (On ys) → Top (On xs) t → Top (On ys) u
     → Added (On xs) (On gs) (On ys) → Group (On xs) (On gs) base size → Rises (On xs) (floor-of t) (floor-of u)

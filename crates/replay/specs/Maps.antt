@@ -23,6 +23,7 @@ Put-by m file (content.Chunk c) k v =
     ((k ≡ chunk-key file (c .index)) × (object.Chunk (c .bytes) ≡ v)) ⊎ ((k ≡ chunk-key file (c .index) → ⊥) × m k v)
 Put-by m file Gone k v = (k .file ≡ file → ⊥) × m k v
 
+-- the map after one page
 abbrev pub Put : Map → Logged → Map
 Put m p = Put-by m (p .page .header .file) (p .page .content)
 

@@ -33,11 +33,6 @@ Rising n (p ∷ ps) = (n ≤ number-of p) × Rising (suc (number-of p)) ps
 abbrev pub With : Log → Logged → Log
 With C p q = C q ⊎ (q ≡ p)
 
--- C and some pages more
-abbrev pub Grown : Log → List Logged → Log
-Grown C [] = C
-Grown C (p ∷ ps) = Grown (With C p) ps
-
 -- a page of this file makes sense after C: a chunk is of a file that has an entry; an entry is of such a file, or of one with no chunk left over
 abbrev pub Fit-by : Log → ℕ → Content → Type 0
 Fit-by C file Note = Unit {0}
@@ -45,6 +40,7 @@ Fit-by C file (content.Entry e) = ((n : Object) × Shown C (entry-key file) n) �
 Fit-by C file (content.Chunk c) = (n : Object) × Shown C (entry-key file) n
 Fit-by C file Gone = Unit {0}
 
+-- the page makes sense after C
 abbrev pub Fit : Log → Logged → Type 0
 Fit C p = Fit-by C (p .page .header .file) (p .page .content)
 
