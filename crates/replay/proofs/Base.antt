@@ -1,6 +1,6 @@
 -- Two logs that count the same pages tell the same.
 use mathlib.Core.Path.{_≡_, subst}
-use Prim.Native.Nat.{ℕ, _≤_}
+use Prim.Native.Nat.{ℕ}
 use native.Mathlib.Omega.{arith}
 use Rattle.object.specs.declared.key.Key.{Key}
 use Rattle.object.specs.declared.value.Object.{Object}
@@ -21,6 +21,12 @@ shown-same {C} {D} to from k v s =
 
 pub alike-same : {C D : Log} → ((p : Logged) → C p → D p) → ((p : Logged) → D p → C p) → Alike C D
 alike-same to from k v = (told-by (shown-same to from) k v, told-by (shown-same from to) k v)
+
+pub alike-trans : {C D E : Log} → Alike C D → Alike D E → Alike C E
+alike-trans a b k v = (λ t. b k v .0 (a k v .0 t), λ t. a k v .1 (b k v .1 t))
+
+pub alike-sym : {C D : Log} → Alike C D → Alike D C
+alike-sym a k v = (a k v .1, a k v .0)
 
 pub complete-more : {L M : Log} → ((p : Logged) → L p → M p) → (p : Logged) → Complete L p → Complete M p
 complete-more h p w k lt = let (q, here, part) = w k lt in (q, h q here, part)

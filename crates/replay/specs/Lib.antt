@@ -4,3 +4,7 @@ pub mod Gathered
 pub mod Faults
 pub mod Seen
 pub mod Remembers
+pub mod Changes
+pub mod Maps
+pub mod Walks
+pub mod Crashes
