@@ -25,11 +25,11 @@ abbrev Answer : Type 0
 Answer = Result (Unit {0}) FlashFault
 
 -- the product that the code computes is the one that the meaning names
-pub times : (x y u v : ℕ) → x ≡ u → y ≡ v → x * y ≡ u * v
-times x y u v e f = ap (λ i. i * y) e ∙ ap (λ i. u * i) f
+pub times : {x y u v : ℕ} → x ≡ u → y ≡ v → x * y ≡ u * v
+times {x} {y} {u} {v} e f = ap (λ i. i * y) e ∙ ap (λ i. u * i) f
 
 -- what was not admitted: `s` is how many pages the code counts, and `x` the fault
-module _ (n m : ℕ) (a b : Chip) (e : m ≡ n) (fa : Formed n a) (fm : Formed m b) (x : FlashFault) where
+module _ {n m : ℕ} {a b : Chip} (e : m ≡ n) (fa : Formed n a) (fm : Formed m b) (x : FlashFault) where
   joined-is : length (joined a b .pages) ≡ n * joined-blocks a b
   joined-is = joined-long n a b (shaped n a fa) (shaped n b (subst (λ i. Formed i b) e fm))
 
@@ -56,7 +56,7 @@ module _ (n m : ℕ) (a b : Chip) (e : m ≡ n) (fa : Formed n a) (fm : Formed m
       subst (λ z. Erases (joined a b) k z (joined a b) × ErasesOne a b k z a b) (sym er)
       (erase-refused (joined a b) k (ltb k s) x past admits, erase-one-refused a b k (ltb k s) x (omega (arith, fa .few)) past admits)
 
-module _ (n m : ℕ) (a b : Chip) (e : m ≡ n) (fa : Formed n a) (fm : Formed m b) (up : joined a b .on ≡ true) where
+module _ {n m : ℕ} {a b : Chip} (e : m ≡ n) (fa : Formed n a) (fm : Formed m b) (up : joined a b .on ≡ true) where
   sa : Shaped n a
   sa = shaped n a fa
 

@@ -1,54 +1,44 @@
 use mathlib.Core.Path.{_≡_, sym, subst, _∙_}
-use mathlib.Core.Bool.{true}
-use Prim.Native.Nat.{_*_, _<_}
+use Prim.Native.Nat.{_*_}
 use native.Mathlib.Omega.{arith}
 use borrow.Author.Tests.{ltb-true}
-use Rattle.flash.specs.Joined.{joined, joined-blocks}
-use Rattle.flash.proofs.Joining.{times, program-not-admitted, program-first, program-second}
-use Rattle.flash.proofs.Refusals.{handed-on}
-use Rattle.flash.proofs.joined.JoinedWriteFlash.program.Needs as need
 use lib.Dec.{ltb}
 use Rattle.std.specs.declared.result.Result.the-variants.{Err}
 use Rattle.flash.specs.Faults.{Admits}
+use Rattle.flash.proofs.Joining.{times, program-not-admitted, program-first, program-second}
+use Rattle.flash.proofs.Refusals.{handed-on}
+use Rattle.flash.proofs.joined.JoinedWriteFlash.program.Needs as need
 
 pub returns-in-Break-admit : need.returns-in-Break-admit
 returns-in-Break-admit g c =
-    let a = g .A·ReadFlash .chip (c .args .self .now .first) in
-    let b = g .B·ReadFlash .chip (c .args .self .now .second) in
-    let n = g .A·ReadFlash .perBlock in
     let same = g .B·ReadFlash .sixteen ∙ sym (g .A·ReadFlash .sixteen) in
-    let fa = g .A·ReadFlash .formed (c .args .self .now .first) in
-    let fb = g .B·ReadFlash .formed (c .args .self .now .second) in
-    let total = times (c .block-pages .result) (c .blocks-2 .result) n (joined-blocks a b) (c .block-pages .ensures) (c .blocks-2 .ensures) in
+    let a = g .A·ReadFlash .formed (c .args .self .now .first) in
+    let b = g .B·ReadFlash .formed (c .args .self .now .second) in
+    let total = times (c .block-pages .ensures) (c .blocks-2 .ensures) in
     let fault = c .in-Break-admit .field-0 .0 in
     let handed = handed-on (c .from-residual .result) fault (c .from-residual .ensures .1) in
-    let done = program-not-admitted n (g .B·ReadFlash .perBlock) a b same fa fb fault (c .args .page) (c .block-pages .result * c .blocks-2 .result) (c .args .bytes .now) (c .from-residual .result) total (subst (λ o. Admits o (ltb (c .args .page) (c .block-pages .result * c .blocks-2 .result)) (Err fault)) (c .is-on .ensures) (c .in-Break-admit .ensures tt)) handed in
+    let admits = subst (λ on. Admits on (ltb (c .args .page) (c .block-pages .result * c .blocks-2 .result)) (Err fault)) (c .is-on .ensures) (c .in-Break-admit .ensures tt) in
+    let done = program-not-admitted same a b fault (c .args .page) (c .block-pages .result * c .blocks-2 .result) (c .args .bytes .now) (c .from-residual .result) total admits handed in
     record { says = done .0; one = done .1 }
 
 pub returns-then-page-split : need.returns-then-page-split
 returns-then-page-split g c =
-    let a = g .A·ReadFlash .chip (c .args .self .now .first) in
-    let b = g .B·ReadFlash .chip (c .args .self .now .second) in
-    let n = g .A·ReadFlash .perBlock in
     let same = g .B·ReadFlash .sixteen ∙ sym (g .A·ReadFlash .sixteen) in
-    let fa = g .A·ReadFlash .formed (c .args .self .now .first) in
-    let fb = g .B·ReadFlash .formed (c .args .self .now .second) in
-    let up : joined a b .on ≡ true = sym (c .is-on .ensures) ∙ c .in-Continue-admit .ensures tt .0 in
-    let split = times (c .block-pages-2 .result) (c .blocks-3 .result) n (a .blocks) (c .block-pages-2 .ensures) (c .blocks-3 .ensures) in
-    let done = program-first n (g .B·ReadFlash .perBlock) a b same fa fb up (c .args .page) (c .block-pages-2 .result * c .blocks-3 .result) (c .args .bytes .now) (g .A·ReadFlash .chip (c .program .last .self)) (c .program .result) split (c .if-page-split .taken) (c .program .ensures .says) in
+    let a = g .A·ReadFlash .formed (c .args .self .now .first) in
+    let b = g .B·ReadFlash .formed (c .args .self .now .second) in
+    let up = sym (c .is-on .ensures) ∙ c .in-Continue-admit .ensures tt .0 in
+    let split = times (c .block-pages-2 .ensures) (c .blocks-3 .ensures) in
+    let done = program-first same a b up (c .args .page) (c .block-pages-2 .result * c .blocks-3 .result) (c .args .bytes .now) (g .A·ReadFlash .chip (c .program .last .self)) (c .program .result) split (c .if-page-split .taken) (c .program .ensures .says) in
     record { says = done .0; one = done .1 }
 
 pub returns-else-page-split : need.returns-else-page-split
 returns-else-page-split g c =
-    let a = g .A·ReadFlash .chip (c .args .self .now .first) in
-    let b = g .B·ReadFlash .chip (c .args .self .now .second) in
-    let n = g .A·ReadFlash .perBlock in
     let same = g .B·ReadFlash .sixteen ∙ sym (g .A·ReadFlash .sixteen) in
-    let fa = g .A·ReadFlash .formed (c .args .self .now .first) in
-    let fb = g .B·ReadFlash .formed (c .args .self .now .second) in
-    let up : joined a b .on ≡ true = sym (c .is-on .ensures) ∙ c .in-Continue-admit .ensures tt .0 in
-    let total = times (c .block-pages .result) (c .blocks-2 .result) n (joined-blocks a b) (c .block-pages .ensures) (c .blocks-2 .ensures) in
-    let split = times (c .block-pages-2 .result) (c .blocks-3 .result) n (a .blocks) (c .block-pages-2 .ensures) (c .blocks-3 .ensures) in
+    let a = g .A·ReadFlash .formed (c .args .self .now .first) in
+    let b = g .B·ReadFlash .formed (c .args .self .now .second) in
+    let up = sym (c .is-on .ensures) ∙ c .in-Continue-admit .ensures tt .0 in
+    let total = times (c .block-pages .ensures) (c .blocks-2 .ensures) in
+    let split = times (c .block-pages-2 .ensures) (c .blocks-3 .ensures) in
     let within = ltb-true (c .args .page) (c .block-pages .result * c .blocks-2 .result) (c .in-Continue-admit .ensures tt .1) in
-    let done = program-second n (g .B·ReadFlash .perBlock) a b same fa fb up (c .args .page) (c .block-pages-2 .result * c .blocks-3 .result) (c .args .bytes .now) (g .B·ReadFlash .chip (c .program-else-page-split .last .self)) (c .program-else-page-split .result) (c .retell .result) split (c .if-page-split .left) (omega (arith, total)) (c .program-else-page-split .ensures .says) (c .retell .ensures) in
+    let done = program-second same a b up (c .args .page) (c .block-pages-2 .result * c .blocks-3 .result) (c .args .bytes .now) (g .B·ReadFlash .chip (c .program-else-page-split .last .self)) (c .program-else-page-split .result) (c .retell .result) split (c .if-page-split .left) (omega (arith, total)) (c .program-else-page-split .ensures .says) (c .retell .ensures) in
     record { says = done .0; one = done .1 }
