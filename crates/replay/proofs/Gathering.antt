@@ -9,7 +9,7 @@ use Rattle.replay.specs.declared.group.Group.the-variants.{Idle, Part, Whole}
 use Rattle.replay.specs.Gathered.{Follows, Run, Newest-is, Gathers, Starts}
 
 -- the newest page tells how long the run is, and of what size the group
-newest-run : (k size : ℕ) (h : Header) (pages : List Header) → Run k size (h ∷ pages) → (k ≡ h .index + 1) × (h .size ≡ size)
+pub newest-run : (k size : ℕ) (h : Header) (pages : List Header) → Run k size (h ∷ pages) → (k ≡ h .index + 1) × (h .size ≡ size)
 newest-run zero size h pages r = absurd r
 newest-run (suc zero) size h pages r = (omega (arith, r .0), r .1)
 newest-run (suc (suc k)) size h [] r = absurd r

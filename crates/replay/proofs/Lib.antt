@@ -16,3 +16,4 @@ pub mod Remembering
 pub mod Listed
 pub mod Written
 pub mod Worked
+pub mod Marking

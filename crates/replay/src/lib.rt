@@ -6,6 +6,7 @@ mod fault;
 mod gather;
 mod group;
 mod laws;
+mod marks;
 mod seen;
 mod walks;
 
