@@ -17,3 +17,4 @@ pub mod Listed
 pub mod Written
 pub mod Worked
 pub mod Marking
+pub mod Nothing

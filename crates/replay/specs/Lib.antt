@@ -8,4 +8,5 @@ pub mod Maps
 pub mod Marks
 pub mod Remembers
 pub mod Seen
+pub mod Shows
 pub mod Walks

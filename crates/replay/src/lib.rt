@@ -8,6 +8,7 @@ mod group;
 mod laws;
 mod marks;
 mod seen;
+mod shows;
 mod walks;
 
 pub use crashes::copy_keeps;

@@ -7,17 +7,13 @@ use lib.ListN.{length, getD}
 use Rattle.std.proofs.shelf.Lists.{getD-default}
 use Rattle.replay.specs.declared.group.Group.{Group}
 use Rattle.replay.specs.declared.group.Group.the-variants.{Whole}
-use Rattle.replay.specs.declared.seen.Says.the-variants.{Nothing}
 use Rattle.replay.specs.declared.seen.Seen.{Seen}
 use Rattle.replay.specs.Gathered.{Gathers}
 use Rattle.replay.specs.Marks.{Flagged, Walkable, taken}
 use Rattle.replay.proofs.Marking.{Marked, marked-on, marked-whole, marked-all, run-long}
+use Rattle.replay.proofs.Nothing.{nothing}
 use Rattle.replay.proofs.marks.mark.Needs as need
 use Rattle.replay.proofs.marks.mark.Needs.{in-Whole, in-rest}
-
--- any page, where only some page is needed
-nothing : Seen
-nothing = record { place = 0; header = record { index = 0; size = 0; number = 0; floor = 0; file = 0 }; says = Nothing }
 
 -- the page at i, at any default
 took : (xs : List Seen) (i : ℕ) (e d : Seen) (g : Group) → i < length xs → Gathers (getD xs i e .header ∷ taken i xs d) g → Gathers (taken (suc i) xs d) g
