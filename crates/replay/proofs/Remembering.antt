@@ -8,7 +8,7 @@ use native.Mathlib.Omega.{arith}
 use native.Mathlib.Decide.{decLt, ℕ-discrete}
 use lib.ListN.{length, getD, take}
 use Rattle.std.specs.shelf.Lists.{inserted}
-use Rattle.std.proofs.shelf.Edits.{length-inserted, getD-inserted-below, getD-inserted-at, getD-inserted-above}
+use Rattle.lookup.proofs.Insertion.{At, before, itself, later, which, stays, stands, rising-inserted}
 use Rattle.std.specs.declared.result.Result.{Result}
 use Rattle.std.specs.declared.result.Result.the-variants.{Ok, Err}
 use Rattle.flash.specs.Chip.{Chip, page}
@@ -81,78 +81,25 @@ module _ (c : Chip) (m : ℕ) (xs : List Seen) (pg : Page) (inside : m < length 
 
   module _ (at : ℕ) (le : at ≤ length xs) (below : (k : ℕ) (d : Seen) → k < at → seen-number (getD xs k d) < seen-number (seen-of (record { place = m; page = pg })))
       (above : (d : Seen) → at < length xs → seen-number (seen-of (record { place = m; page = pg })) < seen-number (getD xs at d)) where
-    abbrev ys : List Seen
-    ys = inserted xs at (seen-of new)
-
-    ys-long : length (inserted xs at (seen-of new)) ≡ length xs + 1
-    ys-long = length-inserted xs at (seen-of new) le
-
-    -- the record at i: an earlier one, the new one, or a later one
-    data At (i : ℕ) (d : Seen) : Type 0 where
-      before : i < at → getD (inserted xs at (seen-of new)) i d ≡ getD xs i d → At i d
-      itself : i ≡ at → getD (inserted xs at (seen-of new)) i d ≡ seen-of new → At i d
-      later : (k : ℕ) → i ≡ k + 1 → at ≤ k → k < length xs → getD (inserted xs at (seen-of new)) i d ≡ getD xs k d → At i d
-
-    which : (i : ℕ) (d : Seen) → i < length (inserted xs at (seen-of new)) → At i d
-    which i d h =
-        elim (decLt i at) [
-          | yes l ↦ before l (getD-inserted-below xs at (seen-of new) d i l le)
-          | no g ↦ elim (ℕ-discrete i at) [
-            | yes e ↦ itself e (ap (λ j. getD ys j d) e ∙ getD-inserted-at xs at (seen-of new) d le)
-            | no ne ↦ past i h (omega arith) ne
-          ]
-        ]
-      where
-        past : (i : ℕ) → i < length (inserted xs at (seen-of new)) → at ≤ i → (i ≡ at → ⊥) → At i d
-        past i h ge ne =
-            let e : i ≡ (i - 1) + 1 = omega arith in
-            later (i - 1) e (omega arith) (omega (arith, ys-long)) (ap (λ j. getD ys j d) e ∙ getD-inserted-above xs at (seen-of new) d (i - 1) (omega arith) le)
-
-    after : (k : ℕ) (d : Seen) → at ≤ k → k < length xs → seen-number (seen-of new) < seen-number (getD xs k d)
-    after k d g h =
-        elim (decLt at k) [
-          | yes l ↦ omega (arith, above d (omega arith), r .rising at k d l h)
-          | no ge ↦ (let e : at ≡ k = omega arith in omega (arith, above d (omega arith), ap (λ j. seen-number (getD xs j d)) e))
-        ]
-
-    rises : (i j : ℕ) (d : Seen) → i < j → At i d → At j d → seen-number (getD (inserted xs at (seen-of new)) i d) < seen-number (getD (inserted xs at (seen-of new)) j d)
-    rises i j d lt (before l a) (before h b) = omega (arith, ap seen-number a, ap seen-number b, r .rising i j d lt (omega arith))
-    rises i j d lt (before l a) (itself h b) = omega (arith, ap seen-number a, ap seen-number b, below i d l)
-    rises i j d lt (before l a) (later k e g h b) = omega (arith, ap seen-number a, ap seen-number b, below i d l, after k d g h)
-    rises i j d lt (itself l a) (before h b) = absurd (omega arith)
-    rises i j d lt (itself l a) (itself h b) = absurd (omega arith)
-    rises i j d lt (itself l a) (later k e g h b) = omega (arith, ap seen-number a, ap seen-number b, after k d g h)
-    rises i j d lt (later k e g h a) (before l b) = absurd (omega arith)
-    rises i j d lt (later k e g h a) (itself l b) = absurd (omega arith)
-    rises i j d lt (later k e g h a) (later l f u v b) = omega (arith, ap seen-number a, ap seen-number b, r .rising k l d (omega arith) v)
-
     pub remembers-added : Remembers c (m + 1) (inserted xs at (seen-of (record { place = m; page = pg })))
     remembers-added =
         record {
-          each = λ i d h. known i d (which i d h);
+          each = λ i d h. known i d (which xs (seen-of new) at le i d h);
           all = λ p here low. elim (ℕ-discrete (p .place) m) [
-            | yes e ↦ (at, omega (arith, ys-long), λ d. getD-inserted-at xs at (seen-of new) d le ∙ sym (only-new p here e))
-            | no ne ↦ old p (r .all p here (under (p .place) low ne))
+            | yes e ↦ (at, stands xs (seen-of new) at le .0, λ d. stands xs (seen-of new) at le .1 d ∙ sym (only-new p here e))
+            | no ne ↦ (let (i, h, is) = r .all p here (under (p .place) low ne) in stays xs (seen-of new) at le (λ s. s ≡ seen-of p) i h is)
           ];
-          rising = λ i j d lt h. rises i j d lt (which i d (omega arith)) (which j d h);
+          rising = rising-inserted xs (seen-of new) at le seen-number (r .rising) below above;
           readable = λ q h e. elim (ℕ-discrete q m) [ yes s ↦ clash q s e | no ne ↦ r .readable q (under q h ne) e ];
         }
       where
         under : (a : ℕ) → a < m + 1 → (a ≡ m → ⊥) → a < m
         under a h ne = omega arith
 
-        known : (i : ℕ) (d : Seen) → At i d → (p : Logged) × Log-of c p × (p .place < m + 1) × (getD (inserted xs at (seen-of new)) i d ≡ seen-of p)
+        known : (i : ℕ) (d : Seen) → At xs (seen-of new) at le i d → (p : Logged) × Log-of c p × (p .place < m + 1) × (getD (inserted xs at (seen-of new)) i d ≡ seen-of p)
         known i d (before l a) = let (p, here, low, is) = r .each i d (omega arith) in (p, here, omega arith, a ∙ is)
         known i d (itself l a) = (new, here-new, omega arith, a)
         known i d (later k e g h a) = let (p, here, low, is) = r .each k d h in (p, here, omega arith, a ∙ is)
-
-        old : (p : Logged) → (i : ℕ) × (i < length xs) × ((d : Seen) → getD xs i d ≡ seen-of p)
-            → (i : ℕ) × (i < length (inserted xs at (seen-of new))) × ((d : Seen) → getD (inserted xs at (seen-of new)) i d ≡ seen-of p)
-        old p (i, h, is) =
-            elim (decLt i at) [
-              | yes l ↦ (i, omega (arith, ys-long), λ d. getD-inserted-below xs at (seen-of new) d i l le ∙ is d)
-              | no ge ↦ (i + 1, omega (arith, ys-long), λ d. getD-inserted-above xs at (seen-of new) d i (omega arith) le ∙ is d)
-            ]
 
         clash : (q : ℕ) → q ≡ m → decoded (page c q) ≡ Err OutOfRange → ⊥
         clash q s e =
