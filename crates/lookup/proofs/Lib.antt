@@ -1,2 +1,3 @@
 pub mod Insertion
 pub mod Rotating
+pub mod Sorting

@@ -6,6 +6,8 @@ mod sorted;
 
 pub use search::Keyed;
 pub use search::find;
+pub use sorted::Placed;
 pub use sorted::Ranked;
 pub use sorted::insert_at;
+pub use sorted::insert_sorted;
 pub use sorted::leading;

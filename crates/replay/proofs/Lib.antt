@@ -1,4 +1,3 @@
-pub mod Adding
 pub mod Base
 pub mod Erase
 pub mod Agree

@@ -8,6 +8,7 @@ use native.Mathlib.Omega.{arith}
 use native.Mathlib.Decide.{decLt, ℕ-discrete}
 use lib.ListN.{length, getD, take}
 use Rattle.std.specs.shelf.Lists.{inserted}
+use Rattle.std.proofs.shelf.Lists.{getD-take, length-take-le}
 use Rattle.lookup.proofs.Insertion.{At, before, itself, later, which, stays, stands, rising-inserted}
 use Rattle.std.specs.declared.result.Result.{Result}
 use Rattle.std.specs.declared.result.Result.the-variants.{Ok, Err}
@@ -23,7 +24,8 @@ use Rattle.replay.specs.declared.fault.ReplayFault.{ReplayFault}
 use Rattle.replay.specs.declared.fault.ReplayFault.the-variants.{Damaged}
 use Rattle.replay.specs.declared.seen.Seen.{Seen}
 use Rattle.replay.specs.Log.{Logged, Log-of, number-of}
-use Rattle.replay.specs.Seen.{Adds, seen-of, seen-number}
+use Rattle.lookup.specs.Sorts.{In-place}
+use Rattle.replay.specs.Seen.{seen-of, seen-number}
 use Rattle.replay.specs.Remembers.{Remembers, Takes-in, Twice, Unreadable}
 
 pub remembers-none : (c : Chip) → Remembers c 0 []
@@ -74,8 +76,8 @@ module _ (c : Chip) (m : ℕ) (xs : List Seen) (pg : Page) (inside : m < length 
       ok-same : (a b : Page) → _≡_ {A = Result Page PageFault} (Ok a) (Ok b) → a ≡ b
       ok-same a b e = cc
 
-  pub remembers-twice : (ys : List Seen) → Adds xs (seen-of (record { place = m; page = pg })) false ys → Twice c
-  remembers-twice ys (at, h, same) =
+  pub remembers-twice : (at : ℕ) → at < length xs → ((d : Seen) → seen-number (getD xs at d) ≡ number-of (record { place = m; page = pg })) → Twice c
+  remembers-twice at h same =
       let (p, here, low, is) = r .each at (seen-of new) h in
       (p, new, here, here-new, sym (ap seen-number is) ∙ same (seen-of new), λ e. omega arith)
 
@@ -106,8 +108,8 @@ module _ (c : Chip) (m : ℕ) (xs : List Seen) (pg : Page) (inside : m < length 
             let same : Ok pg ≡ Err OutOfRange = sym reads ∙ ap (λ i. decoded (page c i)) (sym s) ∙ e in
             let z : _≡_ {A = ℕ} 0 1 = cc in omega arith
 
-  pub remembers-more : (zs : List Seen) → Adds xs (seen-of (record { place = m; page = pg })) true zs → Remembers c (m + 1) zs
-  remembers-more zs (at, le, is, below, above) = subst (Remembers c (m + 1)) (sym is) (remembers-added at le below above)
+  pub remembers-more : (zs : List Seen) → In-place seen-number xs (seen-of (record { place = m; page = pg })) zs → Remembers c (m + 1) zs
+  remembers-more zs p = subst (Remembers c (m + 1)) (sym (p .is)) (remembers-added (p .at) (p .within) (p .below) (p .above))
 
 -- what was read at the next place is taken in
 pub step-on : (c : Chip) (m len n : ℕ) (olds news : List Seen) (read : Result Page PageFault) → decoded (page c m) ≡ read → m < length (c .pages) → len ≤ m
@@ -123,7 +125,12 @@ step-on c m len n olds news (Err OutOfRange) is inside le r t = absurd t
 -- or the chip is damaged
 pub step-stops : (c : Chip) (m len : ℕ) (e : ReplayFault) (olds news : List Seen) (read : Result Page PageFault) → decoded (page c m) ≡ read → m < length (c .pages)
     → Remembers c m (take len olds) → Takes-in olds len m read (Err e) news → (e ≡ Damaged) × (Unreadable c ⊎ Twice c)
-step-stops c m len e olds news (Ok pg) is inside r t = (t .0, inr (remembers-twice c m (take len olds) pg inside is r (take (len + 1) news) (t .1)))
+step-stops c m len e olds news (Ok pg) is inside r (stop, room, twice) =
+    let (at, h, same) = twice in
+    (stop, inr (remembers-twice c m (take len olds) pg inside is r at (omega (arith, long)) (λ d. ap seen-number (getD-take len olds at d h) ∙ same d)))
+  where
+    long : length (take len olds) ≡ len
+    long = length-take-le len olds (omega arith)
 step-stops c m len e olds news (Err NotData) is inside r t = absurd t
 step-stops c m len e olds news (Err OutOfRange) is inside r t = (t, inl (m, inside, is))
 

@@ -9,6 +9,7 @@ use Rattle.std.specs.declared.result.Result.{Result}
 use Rattle.std.specs.declared.result.Result.the-variants.{Ok, Err}
 use Rattle.flash.specs.declared.fault.FlashFault.the-variants.{Off}
 use Rattle.flash.specs.Chip.{Chip, page}
+use Rattle.lookup.specs.Sorts.{In-place}
 use Rattle.page.specs.declared.fields.Page.{Page}
 use Rattle.page.specs.declared.fields.PageFault.{PageFault}
 use Rattle.page.specs.declared.fields.PageFault.the-variants.{NotData, OutOfRange}
@@ -17,7 +18,7 @@ use Rattle.replay.specs.declared.fault.ReplayFault.{ReplayFault}
 use Rattle.replay.specs.declared.fault.ReplayFault.the-variants.{WorkPage, Buffer, Blocks, Flash, Empty, Damaged}
 use Rattle.replay.specs.declared.seen.Seen.{Seen}
 use Rattle.replay.specs.Log.{Logged, Log-of, number-of}
-use Rattle.replay.specs.Seen.{Adds, seen-of, seen-number}
+use Rattle.replay.specs.Seen.{seen-of, seen-number}
 
 -- xs are the data pages at places below m, each of them once, by rising number, and each can be read
 pub record Remembers (c : Chip) (m : ℕ) (xs : List Seen) : Type 0 where
@@ -36,8 +37,8 @@ Twice c = (p : Logged) × (q : Logged) × Log-of c p × Log-of c q × (number-of
 
 -- one page more: remembered if it is data, passed over if it is none, refused if it cannot be read or its number is taken
 abbrev pub Takes-in : List Seen → ℕ → ℕ → Result Page PageFault → Result ℕ ReplayFault → List Seen → Type 0
-Takes-in before len place (Ok pg) (Ok n) after = (n ≡ len + 1) × Adds (take len before) (seen-of (record { place = place; page = pg })) true (take (len + 1) after)
-Takes-in before len place (Ok pg) (Err e) after = (e ≡ Damaged) × Adds (take len before) (seen-of (record { place = place; page = pg })) false (take (len + 1) after)
+Takes-in before len place (Ok pg) (Ok n) after = (n ≡ len + 1) × In-place seen-number (take len before) (seen-of (record { place = place; page = pg })) (take (len + 1) after)
+Takes-in before len place (Ok pg) (Err e) after = (e ≡ Damaged) × (len < length before) × ((at : ℕ) × (at < len) × ((d : Seen) → seen-number (getD before at d) ≡ number-of (record { place = place; page = pg })))
 Takes-in before len place (Err NotData) (Ok n) after = (n ≡ len) × (after ≡ before)
 Takes-in before len place (Err NotData) (Err e) after = ⊥
 Takes-in before len place (Err OutOfRange) (Ok n) after = ⊥

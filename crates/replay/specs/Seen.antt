@@ -1,10 +1,5 @@
 -- Pages as they are remembered, in rising order of numbers.
-use mathlib.Core.Path.{_≡_}
-use mathlib.Core.Bool.{Bool, true, false}
-use mathlib.Core.List.{List}
-use Prim.Native.Nat.{ℕ, _+_, _<_, _≤_}
-use lib.ListN.{length, getD}
-use Rattle.std.specs.shelf.Lists.{inserted}
+use Prim.Native.Nat.{ℕ}
 use Rattle.page.specs.declared.fields.Content.{Content}
 use Rattle.page.specs.declared.fields.Content.the-variants.{Note, Gone}
 use Rattle.page.specs.declared.fields.Content.the-variants as content
@@ -26,10 +21,3 @@ seen-of p = record { place = p .place; header = p .page .header; says = says-by 
 
 abbrev pub seen-number : Seen → ℕ
 seen-number s = s .header .number
-
--- the page stands after those with lower numbers and before the next; or one has its number
-abbrev pub Adds : List Seen → Seen → Bool → List Seen → Type 0
-Adds xs new true ys =
-    (at : ℕ) × (at ≤ length xs) × (ys ≡ inserted xs at new) × ((k : ℕ) (d : Seen) → k < at → seen-number (getD xs k d) < seen-number new)
-    × ((d : Seen) → at < length xs → seen-number new < seen-number (getD xs at d))
-Adds xs new false ys = (at : ℕ) × (at < length xs) × ((d : Seen) → seen-number (getD xs at d) ≡ seen-number new)

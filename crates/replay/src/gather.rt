@@ -10,11 +10,13 @@ ghost use Rattle.std.specs.Vec.{made};
 use crate::fault::ReplayFault;
 use crate::fault::ReplayFaultFromFlashFault;
 use crate::seen::Seen;
-use crate::seen::add;
+use crate::seen::SeenRanked;
 use crate::seen::says_of;
 use flash::PAGE_BYTES;
 use flash::ReadFlash;
 use flash::page_count;
+use lookup::Placed;
+use lookup::insert_sorted;
 use page::Page;
 use page::PageFault;
 use page::decode;
@@ -48,10 +50,11 @@ fn take_in(
                 header: page.header,
                 says: says_of(&page),
             };
-            if !add(seen, len, new) {
-                return Err(ReplayFault::Damaged);
+            match insert_sorted(seen, len, new) {
+                Placed::Put => Ok(len + 1),
+                Placed::Taken => Err(ReplayFault::Damaged),
+                Placed::Full => Err(ReplayFault::Blocks),
             }
-            Ok(len + 1)
         }
         Err(PageFault::NotData) => Ok(len),
         Err(PageFault::OutOfRange) => Err(ReplayFault::Damaged),

@@ -1,13 +1,9 @@
 // What each data page is remembered by, in rising order of numbers.
-ghost use mathlib.Core.Bool.{Bool, true};
+ghost use mathlib.Core.Bool.{true};
 ghost use mathlib.Core.Path.{_≡_};
-ghost use Prim.Native.Nat.{_+_, _<_};
-ghost use lib.ListN.{length, take};
 ghost use Rattle.page.specs.Fits.{fits as page-fits};
-ghost use Rattle.replay.specs.Seen.{Adds, says-by};
+ghost use Rattle.replay.specs.Seen.{says-by};
 use lookup::Ranked;
-use lookup::insert_at;
-use lookup::leading;
 use object::Key;
 use page::Content;
 use page::Header;
@@ -52,16 +48,4 @@ pub(crate) fn says_of(page: &Page) -> Says
         }),
         Content::Gone => Says::Removes(Key { file, part: 0 }),
     }
-}
-
-// Puts a page among the first `len` ones, by its number; false where one has that number.
-pub(crate) fn add(seen: &mut [Seen], len: usize, new: Seen) -> bool
-    requires { ⌜ len < length (now seen) ⌝ }
-    ensures { λ r. ⌜ Adds (take len (now (seen .entry))) new r (take (len + 1) (now (seen .exit))) ⌝ }
-{
-    let at = leading(&seen[0..len], new.header.number as u64);
-    if at < len && seen[at].header.number == new.header.number {
-        return false;
-    }
-    insert_at(seen, len, at, new)
 }
