@@ -1,5 +1,8 @@
 // Writes a chip image of four blocks to standard output: a format's note, a directory /cal, a file
 // /cal/arc of three bytes, and a deletion whose program lost power after nine bytes.
+
+#![tactic(auto)]
+
 ghost use Rattle.std.specs.Prelude.{◌≡◌, min, true, IfOk};
 ghost use Rattle.page.specs.Names.{allowed, named};
 ghost use Rattle.page.specs.declared.fields.Content.TheVariants as content;

@@ -3,6 +3,8 @@
 //! Three kinds keep that meaning: an image in memory whose fuse cuts power, two flashes end to end,
 //! and a dump that is only read. Code above is generic over the traits and proved once for all kinds.
 
+#![tactic(auto)]
+
 mod bytes;
 mod dump;
 mod fault;

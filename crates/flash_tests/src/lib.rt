@@ -1,4 +1,7 @@
 // Runs of the three kinds of flash, compared with what a plain walk over the bytes says.
+
+#![tactic(auto)]
+
 #[cfg(test)]
 mod fuse;
 #[cfg(test)]

@@ -3,6 +3,8 @@
 //! An example is a list of `Placed` pages: what each says, where it stands, and what happens to its
 //! bytes on the way. `write` programs such a list. The examples are grouped by what they show.
 
+#![tactic(auto)]
+
 mod bytes;
 mod damaged;
 mod foreign;

@@ -1,4 +1,7 @@
 // Reads a chip image from standard input and prints what each of its blocks holds.
+
+#![tactic(auto)]
+
 ghost use Rattle.std.specs.Prelude.{true, IfOk, Ok};
 ghost use Rattle.flash.specs.Image.{image_chip};
 ghost use Rattle.inspect.specs.Counted.{Inspects};

@@ -1,4 +1,7 @@
 // Lists the example chips one after another: a heading, then what `list_image` would print of it.
+
+#![tactic(auto)]
+
 use anyhow::anyhow;
 use flash::{Fuse, ImageFlash};
 use images::{

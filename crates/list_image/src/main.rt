@@ -1,5 +1,8 @@
 // Reads a chip image from standard input and prints a line for each of its files and directories, or
 // the number of the refusal.
+
+#![tactic(auto)]
+
 use flash::DumpFlash;
 use listing::{LISTING_BYTES, put_answer};
 use std::io::{Read, Write};

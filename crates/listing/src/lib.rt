@@ -5,6 +5,8 @@
 //!
 //! with `d` or `f`, the length in bytes and the path. It is written into memory that the caller lends.
 
+#![tactic(auto)]
+
 mod answer;
 mod laws;
 mod lines;

@@ -1,6 +1,8 @@
 //! Tables without a heap: one search, written once for any record with a key, and one way to put a
 //! record between others. Keys of objects, tree entries and handles are all found by it.
 
+#![tactic(auto)]
+
 mod search;
 mod sorted;
 

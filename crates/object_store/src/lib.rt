@@ -4,6 +4,8 @@
 //! lent memory. `judge` answers a batch from a table of keys before anything is changed, and
 //! `put_record` and `drop_removed` change such a table; they are for whoever writes another kind of store.
 
+#![tactic(auto)]
+
 mod apply;
 mod batch;
 mod change;

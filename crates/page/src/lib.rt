@@ -5,6 +5,8 @@
 //! what does not fit; `encode` writes exactly the page that `decode` reads back. Nothing here
 //! allocates, and no call asks anything of its caller.
 
+#![tactic(auto)]
+
 mod bits;
 mod code;
 mod decoding;

@@ -1,5 +1,7 @@
 //! The journal's tables and its decisions, with no flash in them.
 
+#![tactic(auto)]
+
 mod batch;
 mod carrying;
 mod commit;

@@ -1,6 +1,8 @@
 //! What a chip shows: replay of its data pages as a relation, without an order of steps, what it does
 //! not depend on, and what of it stays when power is lost.
 
+#![tactic(auto)]
+
 mod access;
 mod collect;
 mod crashes;

@@ -1,6 +1,8 @@
 //! The table of a file system's entries: which files and directories there are, each under its file
 //! number, and whether every one of them stands at a path.
 
+#![tactic(auto)]
+
 mod namesakes;
 mod node;
 mod sound;
