@@ -13,7 +13,7 @@ loop-k-preserved c =
     let k = c.loop-k.k in
     let lt : k < length c.loop-k.out = omega arith in
     let at : c.args.page * 256 + k ≡ 256 * c.args.page + k = omega arith in
-    let fit : get_or xs (c.args.page * 256 + k) 0 < 256 = (c.type-inv.bytes (c.args.page * 256 + k)).fits in
+    let fit : get_or xs (c.args.page * 256 + k) 0 < 256 = omega (arith, c.type_inv.bytes (c.args.page * 256 + k)) in
     let whole : get_or xs (c.args.page * 256 + k) 0 ≡ get_or xs (c.args.page * 256 + k) 0 % 256 = omega arith in (
       below_more _ _
           (λ j h. let ne : j ≢ k = omega arith in rw get_or-set_other (c.loop-k.invariant.0 j h))

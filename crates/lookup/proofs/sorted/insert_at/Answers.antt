@@ -10,5 +10,5 @@ returns g c =
     let room : len < length xs = omega arith in
     let le : at ≤ len = omega arith in
     let n : (len + 1) - at ≡ (len - at) + 1 = omega arith in
-    let turn = c.rotate-right.ensures.after ∙ turned xs len at c.args.x room le ((len + 1) - at) _ n refl in
-    (room, le, search rules, put_between xs len at c.args.x room le ((len + 1) - at) c.rotate-right.new.self n turn)
+    let turn = c.rotate_right.ensures.after ∙ turned xs len at c.args.x room le ((len + 1) - at) _ n refl in
+    (room, le, search rules, put_between xs len at c.args.x room le ((len + 1) - at) c.rotate_right.new.self n turn)

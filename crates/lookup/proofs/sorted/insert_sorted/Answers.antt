@@ -8,7 +8,7 @@ pub returns : goal.returns
 returns g c =
     let xs = c.args.records.now in
     let room : c.args.len < length xs = omega arith in
-    sorted_in g.R.Ranked.ranked xs c.args.len c.leading-at.result c.rank-rank.result c.args.new c.rank-rank.ensures room c.leading-at.ensures c.insert-at.result c.insert-at.new.items
+    sorted_in g.R.Ranked.ranked xs c.args.len c.leading-at.result c.rank-rank.result c.args.new c.rank-rank.ensures room c.leading-at.ensures c.insert_at.result c.insert_at.new.items
     (λ d h e. elim c.else-at-len.branch [
       | else-at-len-via-then-at-len+else-rank w ↦
           (let there : ◌≡◌ {A = ℕ} w.rank.result (g.R.Ranked.ranked (get_or xs c.leading-at.result w.index-records-at.result)) = w.rank.ensures in
@@ -16,4 +16,4 @@ returns g c =
           w.if-rank.false (there ∙ ap g.R.Ranked.ranked (get_or_default xs c.leading-at.result w.index-records-at.result d (omega arith)) ∙ e ∙ sym mine))
       | else-at-len-via-else-at-len w ↦ omega (arith, w.if-at-len.false)
     ])
-    c.insert-at.ensures
+    c.insert_at.ensures

@@ -4,8 +4,8 @@ use Rattle.flash.specs.Cuts.{image_long, cut_at, image_fits, length_octets}
 use Rattle.flash.specs.Image.{image_blocks, octets}
 use Rattle.flash.proofs.dump.DumpFlashReadFlash.read.Goals as goal
 
-pub copy-page-out-requires : goal.copy-page-out-requires
-copy-page-out-requires c =
+pub copy_page_out-requires : goal.copy_page_out-requires
+copy_page_out-requires c =
     let xs = c.args.self.now.bytes.now in
     omega (arith, image_fits xs, length_octets xs)
 
@@ -16,4 +16,4 @@ pub returns : goal.returns
 returns c =
     let xs = c.args.self.now.bytes.now in
     let h : c.args.page < 16 * image_blocks xs = omega arith in
-    (refl, omega (arith, image_long xs true), c.copy-page-out.ensures ∙ ap (filled c.args.out.now) (sym (cut_at (16 * image_blocks xs) c.args.page (octets xs) h)))
+    (refl, omega (arith, image_long xs true), c.copy_page_out.ensures ∙ ap (filled c.args.out.now) (sym (cut_at (16 * image_blocks xs) c.args.page (octets xs) h)))
