@@ -1,12 +1,7 @@
--- `==` on bytes as the test `sameBytes`.
-use Rattle.std.proofs.Common.{◌≡◌, ℕ, Bool, true, List, Decides, refl}
-use Rattle.std.specs.Cmp.Lexicographic.{Matches}
+-- The test `bytes_eq` decides whether two lists of bytes are one.
+use Rattle.std.proofs.Common.{◌≡◌, ℕ, true, List}
 use Rattle.std.specs.Str.{bytes_eq}
-use Rattle.std.proofs.lemmas.Slice.Eq.{slice_eq-Decides, bytes_eq-Decides}
-use Rattle.std.proofs.lemmas.Bool.Decides.{same_from_decides, Decides-eqb}
-
-pub same_bytes : (xs ys : List ℕ) (r : Bool) → Matches (λ (a b : ℕ) (t : Bool). Decides t (a ≡ b)) xs ys r → r ≡ bytes_eq xs ys
-same_bytes xs ys r m = same_from_decides r (bytes_eq xs ys) (slice_eq-Decides Decides-eqb xs ys r m) (bytes_eq-Decides xs ys)
+use Rattle.std.proofs.lemmas.Slice.Eq.{bytes_eq-Decides}
 
 pub same_from_test : (xs ys : List ℕ) → bytes_eq xs ys ≡ true → xs ≡ ys
 same_from_test xs ys t = (bytes_eq-Decides xs ys).0 t

@@ -1,9 +1,9 @@
 // Names of files and directories.
-ghost use Rattle.std.specs.Prelude.{◌≡◌, ◌≤◌, length, if◌then◌else◌, Some, None, Decides};
+ghost use Rattle.std.specs.Prelude.{◌≡◌, ◌≤◌, ◌==◌, ◌&&◌, length, if◌then◌else◌, Some, None, Decides};
+ghost use Rattle.std.specs.Str.{bytes_eq};
 ghost use Rattle.page.specs.Names.{allowed, dots, is_padded, name_byte, name_bytes, name_fits, name_text, named, padded as padded_list};
 ghost use Rattle.std.specs.Cmp.Rules.{comparing};
 ghost use Rattle.std.proofs.Common.{rules};
-ghost use Rattle.std.specs.Cmp as Keys;
 
 use crate::layout::NAME_BYTES;
 
@@ -20,11 +20,14 @@ pub struct Name {
 }
 
 impl PartialEq for Name {
-    ghost equals = { λ x y r. Decides r (x ≡ y) };
+    ghost eq = { λ x y. (x.len == y.len) && bytes_eq x.bytes y.bytes };
 
-    ghost laws = { Keys.partial_equiv_from_equiv (Prim.search (comparing, rules)) };
+    ghost laws = { Prim.search (comparing, rules) };
 
-    fn eq(&self, other: &Name) -> bool {
+    fn eq(&self, other: &Name) -> bool
+        ensures computes { result ≡ ((self.now.len == other.now.len) && bytes_eq self.now.bytes other.now.bytes) }
+        ensures same { Decides result (self.now ≡ other.now) }
+    {
         self.len == other.len && self.bytes == other.bytes
     }
 }
@@ -50,7 +53,7 @@ fn bytes_allowed(bytes: &[u8]) -> bool
 fn is_dots(bytes: &[u8]) -> bool
     ensures { result ≡ dots bytes.now }
 {
-    bytes == b"." || bytes == b".."
+    bytes == b".".as_slice() || bytes == b"..".as_slice()
 }
 
 /// Whether these bytes are a name: 1 to 24 visible ones, none of them '/', and neither "." nor "..".

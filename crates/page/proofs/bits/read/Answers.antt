@@ -3,15 +3,15 @@ use Rattle.page.specs.Bits.{bit, field}
 use Rattle.page.proofs.BitLaws.{bit_below, field_more, field_none}
 use Rattle.page.proofs.bits.read.Goals as goal
 
-pub overflow-mul-value : goal.overflow-mul-value
-overflow-mul-value c =
+pub overflow_mul-value : goal.overflow_mul-value
+overflow_mul-value c =
     let i = c.loop-i.i in
     let small : c.loop-i.value < 2 ^ i = c.loop-i.invariant.1 in
     let p : 2 ^ suc i ≤ 2 ^ 32 = pow_mono {i = suc i} {j = 32} (omega arith) in
     omega arith
 
-pub overflow-add-value : goal.overflow-add-value
-overflow-add-value c =
+pub overflow_add-value : goal.overflow_add-value
+overflow_add-value c =
     let i = c.loop-i.i in
     let small : c.loop-i.value < 2 ^ i = c.loop-i.invariant.1 in
     let p : 2 ^ suc i ≤ 2 ^ 32 = pow_mono {i = suc i} {j = 32} (omega arith) in

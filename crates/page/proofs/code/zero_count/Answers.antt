@@ -9,7 +9,7 @@ loop-byte-preserved c =
     let body = take 254 (drop 2 c.args.page.now) in
     let i = c.loop-byte.byte-index in
     let more = sum_by_more zeros_of body i 0 (search rules) in
-    let value : c.count-zeros.result ≡ zeros_of (get_or body i 0) = c.count-zeros.ensures.value in
+    let value : c.count_zeros.result ≡ zeros_of (get_or body i 0) = c.count_zeros.ensures.value in
     (omega (arith, more, value), omega arith)
 
 pub returns : goal.returns

@@ -12,9 +12,9 @@ pub returns : goal.returns
 returns c =
     let page = c.args.page.now in
     let t : fits page ≡ true = sym c.if-not-fits.ensures in
-    let e = c.put-page.ensures.buffer ∙ placed page in
-    let number = c.put-page.ensures.number in
-    let sized = c.put-page.ensures.sized in
+    let e = c.put_page.ensures.buffer ∙ placed page in
+    let number = c.put_page.ensures.number in
+    let sized = c.put_page.ensures.sized in
     let holds : Holds page (encoded page) =
     record { is_whole = encoded_is_data page t sized; reads = round_trip page t number sized; rest = unlisted_ones page t sized }
     in

@@ -11,13 +11,13 @@ pub loop-byte-preserved : goal.loop-byte-preserved
 loop-byte-preserved c =
     let xs = c.args.bytes.now in
     let i = c.loop-byte.byte-index in
-    ap (λ b. b && name_bytes (drop (i + 1) xs)) c.if-not-byte-allowed.ensures ∙ sym (step xs i c.loop-byte-test.true) ∙ c.loop-byte.invariant
+    ap (λ b. b && name_bytes (drop (i + 1) xs)) c.if-not-byte_allowed.ensures ∙ sym (step xs i c.loop-byte-test.true) ∙ c.loop-byte.invariant
 
-pub returns-then-not-byte-allowed : goal.returns-then-not-byte-allowed
-returns-then-not-byte-allowed c =
+pub returns-then-not-byte_allowed : goal.returns-then-not-byte_allowed
+returns-then-not-byte_allowed c =
     let xs = c.args.bytes.now in
     let i = c.loop-byte.byte-index in
-    ap (λ b. b && name_bytes (drop (i + 1) xs)) c.if-not-byte-allowed.ensures ∙ sym (step xs i c.loop-byte-test.true) ∙ c.loop-byte.invariant
+    ap (λ b. b && name_bytes (drop (i + 1) xs)) c.if-not-byte_allowed.ensures ∙ sym (step xs i c.loop-byte-test.true) ∙ c.loop-byte.invariant
 
 pub returns : goal.returns
 returns c = sym (at_drop_all name_bytes c.args.bytes.now c.loop-byte.byte-index (search rules)) ∙ c.loop-byte.invariant
