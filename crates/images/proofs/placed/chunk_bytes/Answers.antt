@@ -18,5 +18,5 @@ returns c =
     let m = c.min-len.result in
     let shorter : 224 - m ≡ 224 - length s = omega (arith, c.min-len.ensures) in
     let within : m - 0 ≡ min 224 (length s) = omega (arith, c.min-len.ensures) in
-    ap₂ (λ (x y : List ℕ). x ++ y) (c.copy-from-slice.ensures.after ∙ take_short s (m - 0) within)
+    ap₂ (λ (x y : List ℕ). x ++ y) (c.copy_from_slice.ensures.after ∙ take_short s (m - 0) within)
     (ap (λ k. drop k (replicate 224 0)) (sub-zero m) ∙ drop-replicate m 224 0 ∙ ap (λ k. replicate k 0) shorter)

@@ -15,10 +15,10 @@ more : (i k j : Image) (ps : List Placed) (d : Placed) (r : Result (Unit {0}) Im
 more i k j [] d r h s t = absurd (omega arith)
 more i k j (p ∷ ps) d r h s t = inr (k, s, subst (λ x. Writes k x r j) (take_rest (p ∷ ps) 1) t)
 
-pub returns-in-default : goal.returns-in-default
-returns-in-default t c = none (view c.args.flash.now) c.args.pages.now (let h : length c.args.pages.now < 1 = search rules in h)
+pub returns-in_default : goal.returns-in_default
+returns-in_default t c = none (view c.args.flash.now) c.args.pages.now (let h : length c.args.pages.now < 1 = search rules in h)
 
 pub returns : goal.returns
 returns t c =
     more (view c.args.flash.now) (view c.put.new.flash) (view c.write.new.flash) c.args.pages.now _ c.write.result
-    (let h : 1 ≤ length c.args.pages.now = search rules in h) c.in-ok-put.ensures c.write.ensures
+    (let h : 1 ≤ length c.args.pages.now = search rules in h) c.in_ok-put.ensures c.write.ensures

@@ -21,7 +21,7 @@ add-requires g c =
     let formed = g.F.ReadFlash.formed c.args.flash.now in
     let seen = between c.args.first c.loop-place.place chip.pages in
     let counted = c.loop-place.invariant.0 in
-    let read = c.in-ok-read.ensures in
+    let read = c.in_ok-read.ensures in
     let sixteen : length chip.pages ≡ 16 * chip.blocks = formed.paged ∙ ap (λ n. n * chip.blocks) g.F.ReadFlash.sixteen in
     let long = length-between chip.pages c.args.first c.loop-place.place (omega (arith, read.1)) in
     omega (arith, counted.data_pages, counted.spoilt_pages, counted.erased_pages, at_most Data seen, at_most Spoilt seen, at_most Erased seen, long, sixteen, formed.few, read.1)
@@ -30,7 +30,7 @@ pub loop-place-preserved : goal.loop-place-preserved
 loop-place-preserved g c =
     let chip = g.F.ReadFlash.chip c.args.flash.now in
     let formed = g.F.ReadFlash.formed c.args.flash.now in
-    let read = c.in-ok-read.ensures in
+    let read = c.in_ok-read.ensures in
     let more = between_more chip.pages c.args.first c.loop-place.place [] (omega arith) read.1 in
     let added = c.add.ensures (between c.args.first c.loop-place.place chip.pages) c.loop-place.invariant.0 in (
       subst (λ ps. Counted ps c.add.new.self) (ap (λ q. between c.args.first c.loop-place.place chip.pages ++ q ∷ []) (read.2 ∙ filled_whole c.loop-place.page (page chip c.loop-place.place) (c.loop-place.invariant.3 ∙ sym (formed.wide c.loop-place.place read.1))) ∙ sym more) added,

@@ -14,27 +14,27 @@ in_full key table unused cs s b a h e i f g few fit =
     let four = few_changes (map key table) unused cs fit in
     omega (arith, long, four)
 
-pub returns-then-not-is-fit : goal.returns-then-not-is-fit
-returns-then-not-is-fit g c = λ few rises entries os e.
-    unfit os (map g.R.Keyed.keyed c.args.table.now) e c.args.limit c.args.unused c.args.spent c.args.changes.now rises entries c.if-not-is-fit.ensures
+pub returns-then-not-is_fit : goal.returns-then-not-is_fit
+returns-then-not-is_fit g c = λ few rises entries os e.
+    unfit os (map g.R.Keyed.keyed c.args.table.now) e c.args.limit c.args.unused c.args.spent c.args.changes.now rises entries c.if-not-is_fit.ensures
 
 pub returns-then-limit-keys : goal.returns-then-limit-keys
 returns-then-limit-keys g c = λ few rises entries os e.
-    (let sum = in_full g.R.Keyed.keyed c.args.table.now c.args.unused c.args.changes.now c.count-staying.result c.count-brought.result c.saturating-add-keys.result
-    c.count-staying.ensures.within c.count-staying.ensures.count c.count-brought.ensures.within c.count-brought.ensures.count c.saturating-add-keys.ensures few c.if-not-is-fit.ensures in
-    full os (map g.R.Keyed.keyed c.args.table.now) e c.args.limit c.args.unused c.args.spent c.args.changes.now rises entries c.if-not-is-fit.ensures
+    (let sum = in_full g.R.Keyed.keyed c.args.table.now c.args.unused c.args.changes.now c.count_staying.result c.count_brought.result c.saturating_add-keys.result
+    c.count_staying.ensures.within c.count_staying.ensures.count c.count_brought.ensures.within c.count_brought.ensures.count c.saturating_add-keys.ensures few c.if-not-is_fit.ensures in
+    full os (map g.R.Keyed.keyed c.args.table.now) e c.args.limit c.args.unused c.args.spent c.args.changes.now rises entries c.if-not-is_fit.ensures
     (omega (arith, sum, c.if-limit-keys.true)))
 
 pub returns-then-spent : goal.returns-then-spent
 returns-then-spent g c = λ few rises entries os e.
-    (let sum = in_full g.R.Keyed.keyed c.args.table.now c.args.unused c.args.changes.now c.count-staying.result c.count-brought.result c.saturating-add-keys.result
-    c.count-staying.ensures.within c.count-staying.ensures.count c.count-brought.ensures.within c.count-brought.ensures.count c.saturating-add-keys.ensures few c.if-not-is-fit.ensures in
-    is_spent os (map g.R.Keyed.keyed c.args.table.now) e c.args.limit c.args.unused c.args.spent c.args.changes.now rises entries c.if-not-is-fit.ensures
+    (let sum = in_full g.R.Keyed.keyed c.args.table.now c.args.unused c.args.changes.now c.count_staying.result c.count_brought.result c.saturating_add-keys.result
+    c.count_staying.ensures.within c.count_staying.ensures.count c.count_brought.ensures.within c.count_brought.ensures.count c.saturating_add-keys.ensures few c.if-not-is_fit.ensures in
+    is_spent os (map g.R.Keyed.keyed c.args.table.now) e c.args.limit c.args.unused c.args.spent c.args.changes.now rises entries c.if-not-is_fit.ensures
     (omega (arith, sum, c.if-limit-keys.false)) c.if-spent.true)
 
 pub returns : goal.returns
 returns g c = λ few rises entries os e.
-    (let sum = in_full g.R.Keyed.keyed c.args.table.now c.args.unused c.args.changes.now c.count-staying.result c.count-brought.result c.saturating-add-keys.result
-    c.count-staying.ensures.within c.count-staying.ensures.count c.count-brought.ensures.within c.count-brought.ensures.count c.saturating-add-keys.ensures few c.if-not-is-fit.ensures in
-    passed os (map g.R.Keyed.keyed c.args.table.now) e c.args.limit c.args.unused c.args.spent c.args.changes.now rises entries c.if-not-is-fit.ensures
+    (let sum = in_full g.R.Keyed.keyed c.args.table.now c.args.unused c.args.changes.now c.count_staying.result c.count_brought.result c.saturating_add-keys.result
+    c.count_staying.ensures.within c.count_staying.ensures.count c.count_brought.ensures.within c.count_brought.ensures.count c.saturating_add-keys.ensures few c.if-not-is_fit.ensures in
+    passed os (map g.R.Keyed.keyed c.args.table.now) e c.args.limit c.args.unused c.args.spent c.args.changes.now rises entries c.if-not-is_fit.ensures
     (omega (arith, sum, c.if-limit-keys.false)) c.if-spent.false)

@@ -15,8 +15,8 @@ returns-then-same g c =
     ap₂ same_key (ap key (get_or_default xs at d c.index-records-at.result h) ∙ sym c.key.ensures) (sym c.key-key.ensures) ∙ sym c.if-same.ensures)) in
     record { puts = λ _. puts; refused = λ over. absurd (omega (arith, c.if-len-records.false)) }
 
-pub returns-then-insert-at : goal.returns-then-insert-at
-returns-then-insert-at g c =
+pub returns-then-insert_at : goal.returns-then-insert_at
+returns-then-insert_at g c =
     let key = g.R.Keyed.keyed in
     let xs = c.args.records.now in
     let at = c.lower-at.result in
@@ -26,11 +26,11 @@ returns-then-insert-at g c =
           ap₂ same_key (ap key (get_or_default xs at d w.index-records-at.result h) ∙ sym w.key.ensures) (sym c.key-key.ensures) ∙ sym w.if-same.ensures)
       | else-at-len-via-else-at-len w ↦ absurd (omega (arith, w.if-at-len.false))
     ])
-    c.insert-at.new.items c.if-insert-at.ensures in
+    c.insert_at.new.items c.if-insert_at.ensures in
     record { puts = λ _. puts; refused = λ over. absurd (omega (arith, c.if-len-records.false)) }
 
-pub returns-else-insert-at : goal.returns-else-insert-at
-returns-else-insert-at g c =
+pub returns-else-insert_at : goal.returns-else-insert_at
+returns-else-insert_at g c =
     let key = g.R.Keyed.keyed in
     let xs = c.args.records.now in
     let at = c.lower-at.result in
@@ -40,5 +40,5 @@ returns-else-insert-at g c =
           ap₂ same_key (ap key (get_or_default xs at d w.index-records-at.result h) ∙ sym w.key.ensures) (sym c.key-key.ensures) ∙ sym w.if-same.ensures)
       | else-at-len-via-else-at-len w ↦ absurd (omega (arith, w.if-at-len.false))
     ])
-    c.insert-at.new.items c.if-insert-at.ensures in
+    c.insert_at.new.items c.if-insert_at.ensures in
     record { puts = λ _. puts; refused = λ over. absurd (omega (arith, c.if-len-records.false)) }

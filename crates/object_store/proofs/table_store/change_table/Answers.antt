@@ -4,19 +4,19 @@ use Rattle.object_store.specs.Lent.{ChangesTable}
 use Rattle.object_store.proofs.Lending.{judged, passed, room, made_whole}
 use Rattle.object_store.proofs.table_store.change_table.Goals as goal
 
-pub returns-in-err-judge : goal.returns-in-err-judge
-returns-in-err-judge c =
+pub returns-in_err-judge : goal.returns-in_err-judge
+returns-in_err-judge c =
     let places = c.args.places.now in
     let cs = c.args.changes.now in
-    let refused = judged places c.args.len cs c.requires c.min-limit.result c.lowest-unused.result c.min-limit.ensures c.lowest-unused.ensures _ c.in-err-judge.ensures in
-    let back = err_from_is_err_and c.from-residual.result c.from-residual.ensures.1 in
+    let refused = judged places c.args.len cs c.requires c.min-limit.result c.lowest_unused.result c.min-limit.ensures c.lowest_unused.ensures _ c.in_err-judge.ensures in
+    let back = err_from_is_err_and c.from_residual.result c.from_residual.ensures.1 in
     subst (λ r. ChangesTable places c.args.len cs r places) (sym (back.1 ∙ ap Err back.2)) (refused, refl)
 
 pub make-requires : goal.make-requires
 make-requires c =
     let places = c.args.places.now in
     let cs = c.args.changes.now in
-    let ok = judged places c.args.len cs c.requires c.min-limit.result c.lowest-unused.result c.min-limit.ensures c.lowest-unused.ensures _ c.in-ok-judge.ensures in
+    let ok = judged places c.args.len cs c.requires c.min-limit.result c.lowest_unused.result c.min-limit.ensures c.lowest_unused.ensures _ c.in_ok-judge.ensures in
     let fits = (passed places c.args.len cs c.requires ok).fits in
     record { within = c.requires.within; rising = c.requires.sound.rising; order = (fits.ordered, fits.placed); room = room places c.args.len cs c.requires ok }
 
@@ -24,7 +24,7 @@ pub returns : goal.returns
 returns c =
     let places = c.args.places.now in
     let cs = c.args.changes.now in
-    let ok = judged places c.args.len cs c.requires c.min-limit.result c.lowest-unused.result c.min-limit.ensures c.lowest-unused.ensures _ c.in-ok-judge.ensures in (
+    let ok = judged places c.args.len cs c.requires c.min-limit.result c.lowest_unused.result c.min-limit.ensures c.lowest_unused.ensures _ c.in_ok-judge.ensures in (
       ok,
       c.make.ensures.long,
       c.make.ensures.after,

@@ -12,16 +12,16 @@ loop-index-preserved g c =
     let shelf = g.S.ObjectStore.shelf c.args.store.now in
     let ks = keys_of shelf.objects in
     let index = c.loop-index.index in
-    let is = ap some_entry (told_is shelf (key_at ks index) c.in-ok-key.field-0 c.in-ok-key.ensures).1 in
-    elim c.if-is-entry.branch [
-      | then-is-entry w ↦ entries_more ks index c.loop-index.entries c.if-is-entry.entries true c.loop-index.invariant (w.if-is-entry.ensures ∙ is) w.entries-is
-      | else-is-entry w ↦ entries_more ks index c.loop-index.entries c.if-is-entry.entries false c.loop-index.invariant (w.if-is-entry.ensures ∙ is) (omega (arith, w.entries-is))
+    let is = ap some_entry (told_is shelf (key_at ks index) c.in_ok-key.field-0 c.in_ok-key.ensures).1 in
+    elim c.if-is_entry.branch [
+      | then-is-entry w ↦ entries_more ks index c.loop-index.entries c.if-is_entry.entries true c.loop-index.invariant (w.if-is_entry.ensures ∙ is) w.entries-is
+      | else-is-entry w ↦ entries_more ks index c.loop-index.entries c.if-is_entry.entries false c.loop-index.invariant (w.if-is_entry.ensures ∙ is) (omega (arith, w.entries-is))
     ]
 
 pub returns : goal.returns
 returns g c =
     let shelf = g.S.ObjectStore.shelf c.args.store.now in
     let ks = keys_of shelf.objects in
-    let count = told_is shelf (length shelf.objects) c.in-ok-index-end.index-end c.in-ok-index-end.ensures in
+    let count = told_is shelf (length shelf.objects) c.in_ok-index-end.index-end c.in_ok-index-end.ensures in
     let long = length-map shelf.objects key_of in
     ap Ok (entries_all ks c.loop-index.index c.loop-index.entries (omega (arith, long, count.1, c.loop-index-test.false)) c.loop-index.invariant) ∙ sym (tells shelf (entries_in ks) count.0)

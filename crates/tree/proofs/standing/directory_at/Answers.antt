@@ -4,8 +4,8 @@ use Rattle.tree.proofs.Ordered.{nothing, one_entry}
 use Rattle.tree.proofs.Finding.{entry_at, entry_found, none_found}
 use Rattle.tree.proofs.standing.directory_at.Goals as goal
 
-pub returns-in-default : goal.returns-in-default
-returns-in-default c = λ dir. none_found c.args.nodes.now c.args.file c.in-default.ensures dir.0 dir.1
+pub returns-in_default : goal.returns-in_default
+returns-in_default c = λ dir. none_found c.args.nodes.now c.args.file c.in_default.ensures dir.0 dir.1
 
 pub returns-in-Directory : goal.returns-in-Directory
 returns-in-Directory c =

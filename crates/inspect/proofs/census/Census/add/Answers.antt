@@ -11,4 +11,4 @@ returns-in-Spoilt c = λ pages. counted_spoilt pages c.args.page.now c.args.self
 
 pub returns-in-Data : goal.returns-in-Data
 returns-in-Data c =
-    λ pages. counted_data pages c.args.page.now c.args.self.now c.widened.result (sym c.in-Data.ensures) (c.widened.ensures ∙ ap (widened_by c.args.self.now.numbers) c.page-number.ensures)
+    λ pages. counted_data pages c.args.page.now c.args.self.now c.widened.result (sym c.in-Data.ensures) (c.widened.ensures ∙ ap (widened_by c.args.self.now.numbers) c.page_number.ensures)

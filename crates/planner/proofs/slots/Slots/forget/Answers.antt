@@ -4,13 +4,13 @@ use Rattle.planner.proofs.Firsts.{the_rising, the_narrow}
 use Rattle.planner.proofs.Forgetting.{forgets_narrow}
 use Rattle.planner.proofs.slots.Slots.forget.Goals as goal
 
-pub keep-others-self-requires : goal.keep-others-self-requires
-keep-others-self-requires c = record { room = omega (arith, c.args.self.now.long, c.args.self.now.few); rising = the_rising c.args.self.now }
+pub keep_others-self-requires : goal.keep_others-self-requires
+keep_others-self-requires c = record { room = omega (arith, c.args.self.now.long, c.args.self.now.few); rising = the_rising c.args.self.now }
 
-pub invariant-of-self : goal.invariant-of-self
-invariant-of-self c =
+pub invariant_of-self : goal.invariant_of-self
+invariant_of-self c =
     let s = c.args.self.now in
-    let k = c.keep-others-self in (
+    let k = c.keep_others-self in (
       k.auto.items ∙ s.long,
       (
         omega (arith, k.ensures.few, s.few),

@@ -17,8 +17,8 @@ moved s i l new same =
       ∣ replaced_narrow s.items s.len i new long l same (slot_rises s) part (slot_fits s) ∣₁,
     )
 
-pub invariant-of-self : goal.invariant-of-self
-invariant-of-self c =
+pub invariant_of-self : goal.invariant_of-self
+invariant_of-self c =
     let s = c.args.self.now in
     let w = moved s c.args.at c.requires (record { key = (get_or s.items c.args.at blank).key; block = c.args.block; index = c.args.index; number = c.args.number }) refl in
     (w.0, (s.few, (w.1, (w.2, tt))))

@@ -28,8 +28,8 @@ fresh_rank s new b absent i l e =
     absent i blank (omega (arith, listed_long s))
     (ap (λ (x : Slot). x.key) (get_or-take s.len s.items i blank l) ∙ one_rank (get_or s.items i blank) new (slot_fits s i l) b (e blank))
 
-pub invariant-of-self : goal.invariant-of-self
-invariant-of-self c =
+pub invariant_of-self : goal.invariant_of-self
+invariant_of-self c =
     let s = c.args.self.now in
     let new = c.args.slot in
     let i = c.in-Some.at in
@@ -58,29 +58,29 @@ put_in s new zs b absent room long at = (
   ∣ inserted_narrow (listed s) new (take (s.len + 1) zs) at (the_rising s) absent b (the_narrow s) ∣₁,
 )
 
-pub invariant-of-self-in-Put : goal.invariant-of-self-in-Put
-invariant-of-self-in-Put c =
+pub invariant_of-self-in-Put : goal.invariant_of-self-in-Put
+invariant_of-self-in-Put c =
     let b : c.args.slot.key.part < 256 = omega arith in
     let p = c.in-Put.ensures in
-    let w = put_in c.args.self.now c.args.slot c.insert-sorted.new.records b c.in-default.ensures p.0 p.1 p.2 in
+    let w = put_in c.args.self.now c.args.slot c.insert_sorted.new.records b c.in_default.ensures p.0 p.1 p.2 in
     (w.0, (w.1, (w.2, (w.3, tt))))
 
 pub returns-in-Put : goal.returns-in-Put
 returns-in-Put c =
     let s = c.args.self.now in
-    inserted_put (listed s) c.args.slot (take (s.len + 1) c.insert-sorted.new.records) c.in-Put.ensures.2 (the_rising s) c.in-default.ensures
+    inserted_put (listed s) c.args.slot (take (s.len + 1) c.insert_sorted.new.records) c.in-Put.ensures.2 (the_rising s) c.in_default.ensures
 
-pub invariant-of-self-in-Taken : goal.invariant-of-self-in-Taken
-invariant-of-self-in-Taken c =
+pub invariant_of-self-in-Taken : goal.invariant_of-self-in-Taken
+invariant_of-self-in-Taken c =
     let t = c.in-Taken.ensures in
     let b : c.args.slot.key.part < 256 = omega arith in
-    absurd (fresh_rank c.args.self.now c.args.slot b c.in-default.ensures t.2.0 t.2.1 t.2.2)
+    absurd (fresh_rank c.args.self.now c.args.slot b c.in_default.ensures t.2.0 t.2.1 t.2.2)
 
 pub returns-in-Taken : goal.returns-in-Taken
 returns-in-Taken c =
     let t = c.in-Taken.ensures in
     let b : c.args.slot.key.part < 256 = omega arith in
-    absurd (fresh_rank c.args.self.now c.args.slot b c.in-default.ensures t.2.0 t.2.1 t.2.2)
+    absurd (fresh_rank c.args.self.now c.args.slot b c.in_default.ensures t.2.0 t.2.1 t.2.2)
 
 -- nothing changed
 unchanged : (s : Slots) (zs : List Slot) → zs ≡ s.items → (length zs ≡ 212) × ∥ Rising (take s.len zs) ∥₁ × ∥ Narrow (take s.len zs) ∥₁
@@ -90,9 +90,9 @@ unchanged s zs e = (
   subst (λ xs. ∥ Narrow (take s.len xs) ∥₁) (sym e) s.narrow,
 )
 
-pub invariant-of-self-in-Full : goal.invariant-of-self-in-Full
-invariant-of-self-in-Full c =
-    let w = unchanged c.args.self.now c.insert-sorted.new.records c.in-Full.ensures.1 in
+pub invariant_of-self-in-Full : goal.invariant_of-self-in-Full
+invariant_of-self-in-Full c =
+    let w = unchanged c.args.self.now c.insert_sorted.new.records c.in-Full.ensures.1 in
     (w.0, (c.args.self.now.few, (w.1, (w.2, tt))))
 
 pub returns-in-Full : goal.returns-in-Full
@@ -100,4 +100,4 @@ returns-in-Full c =
     let s = c.args.self.now in
     let t = c.in-Full.ensures in
     let n : length (listed s) ≡ 212 = omega (arith, listed_long s, t.0, s.few, s.long) in
-    (ap (take s.len) t.1, n, λ x h e. c.in-default.ensures h.0 blank h.1 (ap (λ (y : Slot). y.key) (h.2 blank) ∙ e))
+    (ap (take s.len) t.1, n, λ x h e. c.in_default.ensures h.0 blank h.1 (ap (λ (y : Slot). y.key) (h.2 blank) ∙ e))

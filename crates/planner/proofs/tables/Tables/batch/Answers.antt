@@ -9,7 +9,7 @@ pub returns : goal.returns
 returns c =
     let t = c.args.self.now in
     let pages = c.args.pages.now in
-    let may = c.may-write.ensures.0 c.if-not-may-write.false in
+    let may = c.may_write.ensures.0 c.if-not-may_write.false in
     let h = c.in-Some.head in
     let after = c.written-after.result in (
       record {

@@ -48,8 +48,8 @@ module _ (t : Tables) (pages : List Says) (h : Head) (after : Slots) (f : ℕ) (
       subst (λ u. Written (listed t.slots) pages (state t).head u (t.last + 1) (length pages) (listed after)) (sym (ap (used_of t.per) is))
       (subst (λ b. Written (listed t.slots) pages b h.used (t.last + 1) (length pages) (listed after)) (sym (ap (head_of t.blocks) is)) written)
 
-pub invariant-of-self : goal.invariant-of-self
-invariant-of-self c =
+pub invariant_of-self : goal.invariant_of-self
+invariant_of-self c =
     let t = c.args.self.now in
     let pages = c.args.pages.now in
     let h = c.args.head in

@@ -23,10 +23,10 @@ pub unreachable-requires : goal.unreachable-requires
 unreachable-requires c =
     let t = c.args.self.now in
     let l : head_of t.blocks t.head < t.blocks = (going t c.args.slot c.args.floor c.requires).headed in
-    omega (arith, l, ap (head_of t.blocks) c.in-default.is)
+    omega (arith, l, ap (head_of t.blocks) c.in_default.is)
 
-pub overflow-add-self : goal.overflow-add-self
-overflow-add-self c =
+pub overflow_add-self : goal.overflow_add-self
+overflow_add-self c =
     let t = c.args.self.now in
     let l : t.last + 1 < 2 ^ 32 = (going t c.args.slot c.args.floor c.requires).number in omega arith
 
@@ -80,16 +80,16 @@ module _ (t : Tables) (moved : Slots) (h : Head) (i f : ℕ) (is : t.head ≡ So
 pub bounds-self-head : goal.bounds-self-head
 bounds-self-head c =
     let t = c.args.self.now in
-    inside t c.move-to.new.self c.in-Some.head c.args.slot c.args.floor c.in-Some.is c.requires c.move-to.ensures.count c.move-to.ensures.items
+    inside t c.move_to.new.self c.in-Some.head c.args.slot c.args.floor c.in-Some.is c.requires c.move_to.ensures.count c.move_to.ensures.items
 
-pub invariant-of-self : goal.invariant-of-self
-invariant-of-self c =
+pub invariant_of-self : goal.invariant_of-self
+invariant_of-self c =
     let t = c.args.self.now in
-    let m = c.move-to.new.self in
+    let m = c.move_to.new.self in
     let h = c.in-Some.head in
     let i = c.args.slot in
     let f = c.args.floor in
-    let e = c.move-to.ensures in (
+    let e = c.move_to.ensures in (
       length-set t.high h.block (t.last + 1) ∙ t.tall,
       (
         t.slim,
@@ -109,11 +109,11 @@ invariant-of-self c =
 pub returns : goal.returns
 returns c =
     let t = c.args.self.now in
-    let m = c.move-to.new.self in
+    let m = c.move_to.new.self in
     let h = c.in-Some.head in
     let i = c.args.slot in
     let f = c.args.floor in
-    let e = c.move-to.ensures in
+    let e = c.move_to.ensures in
     let o = writes t m h i f c.in-Some.is c.requires e.count e.items in
     let s = after t m h i f c.in-Some.is c.requires e.count e.items in
     record {

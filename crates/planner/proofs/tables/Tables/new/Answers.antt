@@ -4,8 +4,8 @@ use Rattle.planner.proofs.Firsts.{listed_long}
 use Rattle.planner.proofs.Fresh.{fresh_sound, fresh_free}
 use Rattle.planner.proofs.tables.Tables.new.Goals as goal
 
-pub invariant-of-result : goal.invariant-of-result
-invariant-of-result c =
+pub invariant_of-result : goal.invariant_of-result
+invariant_of-result c =
     let slots = c.new.result in
     let none : slots.len ≡ 0 = sym (listed_long slots) ∙ ap length c.new.ensures in
     let sizes : Sizes c.args.per_block c.args.blocks = record { wide = omega arith; slim = omega arith; tall = omega arith; small = omega arith } in (

@@ -18,8 +18,8 @@ after t b = shape t.slots (set t.high b 0) t.per t.blocks t.floor t.last (Some (
 writes : (t : Tables) (b : ℕ) → b < t.blocks → Opened (state t) b (after t b)
 writes t b l = open_writes t.slots t.high t.per t.blocks t.floor t.last t.head b (omega (arith, t.tall, t.small))
 
-pub invariant-of-self : goal.invariant-of-self
-invariant-of-self c =
+pub invariant_of-self : goal.invariant_of-self
+invariant_of-self c =
     let t = c.args.self.now in
     let b = c.args.block in
     let may = c.requires in
@@ -35,7 +35,7 @@ invariant-of-self c =
               omega arith,
               (
                 ∣ open_sound (state t) (the_sound t) b may.0 (after t b) o ∣₁,
-                (opened_keeps (state t) (the_sound t) b (after t b) o t.phase c.phase-after-phase.result may c.phase-after-phase.ensures t.spare, tt),
+                (opened_keeps (state t) (the_sound t) b (after t b) o t.phase c.phase_after-phase.result may c.phase_after-phase.ensures t.spare, tt),
               ),
             ),
           ),
@@ -49,8 +49,8 @@ returns c =
     let b = c.args.block in
     let may = c.requires in
     let o = writes t b may.0.real in
-    let q = c.phase-after-phase.result in
-    let a = c.phase-after-phase.ensures in
+    let q = c.phase_after-phase.result in
+    let a = c.phase_after-phase.ensures in
     record {
       opened = o;
       keys = record { per = refl; blocks = refl; count = refl; keys = λ k l. refl };

@@ -17,20 +17,20 @@ shares xs ys r same t = subst (λ (zs : List Node). Decides r (Namesakes (Among 
 pub rooted-requires : goal.rooted-requires
 rooted-requires c = subst Rising (sym c.nodes-nodes.ensures) (rising_of c.args.self.now)
 
-pub has-namesakes-requires : goal.has-namesakes-requires
-has-namesakes-requires c = subst Rising (sym c.nodes-nodes.ensures) (rising_of c.args.self.now)
+pub has_namesakes-requires : goal.has_namesakes-requires
+has_namesakes-requires c = subst Rising (sym c.nodes-nodes.ensures) (rising_of c.args.self.now)
 
 pub returns-then-not-rooted : goal.returns-then-not-rooted
 returns-then-not-rooted c = roots c.nodes-nodes.result.now _ c.rooted.result false c.nodes-nodes.ensures c.if-not-rooted.true c.rooted.ensures
 
-pub returns-then-has-namesakes : goal.returns-then-has-namesakes
-returns-then-has-namesakes c = (
+pub returns-then-has_namesakes : goal.returns-then-has_namesakes
+returns-then-has_namesakes c = (
   roots c.nodes-nodes.result.now _ c.rooted.result true c.nodes-nodes.ensures c.if-not-rooted.false c.rooted.ensures,
-  (shares c.nodes-nodes.result.now _ c.has-namesakes.result c.nodes-nodes.ensures c.has-namesakes.ensures).0 c.if-has-namesakes.true,
+  (shares c.nodes-nodes.result.now _ c.has_namesakes.result c.nodes-nodes.ensures c.has_namesakes.ensures).0 c.if-has_namesakes.true,
 )
 
 pub returns : goal.returns
 returns c = (
   roots c.nodes-nodes.result.now _ c.rooted.result true c.nodes-nodes.ensures c.if-not-rooted.false c.rooted.ensures,
-  λ n. both_ways c.has-namesakes.result c.if-has-namesakes.false ((shares c.nodes-nodes.result.now _ c.has-namesakes.result c.nodes-nodes.ensures c.has-namesakes.ensures).1 n),
+  λ n. both_ways c.has_namesakes.result c.if-has_namesakes.false ((shares c.nodes-nodes.result.now _ c.has_namesakes.result c.nodes-nodes.ensures c.has_namesakes.ensures).1 n),
 )
