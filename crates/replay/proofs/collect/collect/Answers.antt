@@ -5,13 +5,13 @@ use Rattle.replay.specs.Slots.{Collects, slot_rank}
 use Rattle.replay.proofs.Collecting.{collects_none, collects_fresh, collects_more, collects_skip}
 use Rattle.replay.proofs.Nothing.{nothing}
 use Rattle.replay.proofs.collect.collect.Goals as goal
-use Rattle.replay.proofs.collect.collect.Goals.{in-Some, in-default}
+use Rattle.replay.proofs.collect.collect.Goals.{in-Some, in_default}
 
 pub loop-i-init : goal.loop-i-init
 loop-i-init g c = (omega arith, collects_none c.args.seen.now c.args.flags.now c.args.floor (g.W.Wants.wanted c.args.wants.now))
 
-pub put-slot-requires : goal.put-slot-requires
-put-slot-requires g c =
+pub put_slot-requires : goal.put_slot-requires
+put_slot-requires g c =
     let len = c.loop-i.len in
     let slots = c.loop-i.slots in
     let room : c.loop-i.len < length c.loop-i.slots = omega (arith, c.requires.1, c.loop-i.invariant.0, c.loop-i.auto.slots) in
@@ -31,18 +31,18 @@ loop-i-preserved g c =
     let len = c.loop-i.len in
     let W = g.W.Wants.wanted c.args.wants.now in
     let old = take c.loop-i.len c.loop-i.slots in
-    elim c.match-wanted-at.branch [
+    elim c.match-wanted_at.branch [
       | in-Some w ↦ (
         omega (arith, w.len-is, c.loop-i.invariant.0),
-        subst (λ (n : ℕ). Collects xs flags f (i + 1) W (take n c.match-wanted-at.slots)) (sym w.len-is)
+        subst (λ (n : ℕ). Collects xs flags f (i + 1) W (take n c.match-wanted_at.slots)) (sym w.len-is)
             (subst (λ (s : List Slot). Collects xs flags f (i + 1) W (take (len + 1) s)) (sym w.slots-is)
-            (collects_more xs flags f W i c.loop-i-test.true old c.loop-i.invariant.1 c.requires.2 w.in-Some.key w.in-Some.ensures.0 w.in-Some.ensures.1 (take (len + 1) w.put-slot.new.slots) nothing w.put-slot.ensures)),
+            (collects_more xs flags f W i c.loop-i-test.true old c.loop-i.invariant.1 c.requires.2 w.in-Some.key w.in-Some.ensures.0 w.in-Some.ensures.1 (take (len + 1) w.put_slot.new.slots) nothing w.put_slot.ensures)),
       )
-      | in-default w ↦ (
+      | in_default w ↦ (
         omega (arith, w.len-is, c.loop-i.invariant.0),
-        subst (λ (n : ℕ). Collects xs flags f (i + 1) W (take n c.match-wanted-at.slots)) (sym w.len-is)
+        subst (λ (n : ℕ). Collects xs flags f (i + 1) W (take n c.match-wanted_at.slots)) (sym w.len-is)
             (subst (λ (s : List Slot). Collects xs flags f (i + 1) W (take len s)) (sym w.slots-is)
-            (collects_skip xs flags f W i c.loop-i-test.true old c.loop-i.invariant.1 w.in-default.ensures)),
+            (collects_skip xs flags f W i c.loop-i-test.true old c.loop-i.invariant.1 w.in_default.ensures)),
       )
     ]
 

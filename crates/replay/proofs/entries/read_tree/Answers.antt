@@ -12,8 +12,8 @@ pub loop-i-preserved : goal.loop-i-preserved
 loop-i-preserved g c =
     let slots = c.args.slots.now in
     let lt = c.loop-i-test.true in
-    entries_more (g.F.ReadFlash.chip c.args.flash.now) slots c.loop-i.i lt c.requires.few c.requires.rising _ (λ d. get_or_default slots c.loop-i.i d _ lt) c.in-ok-entry.entry
-    c.in-ok-entry.ensures (nodes_of c.loop-i.tree) c.loop-i.invariant c.add.result (nodes_of c.add.new.self) c.add.ensures
+    entries_more (g.F.ReadFlash.chip c.args.flash.now) slots c.loop-i.i lt c.requires.few c.requires.rising _ (λ d. get_or_default slots c.loop-i.i d _ lt) c.in_ok-entry.entry
+    c.in_ok-entry.ensures (nodes_of c.loop-i.tree) c.loop-i.invariant c.add.result (nodes_of c.add.new.self) c.add.ensures
 
 pub returns : goal.returns
 returns g c =

@@ -8,7 +8,7 @@ use Rattle.replay.specs.Marks.{Flagged, Walkable, taken}
 use Rattle.replay.proofs.Marking.{Marked, marked_on, marked_whole, marked_all, run_long}
 use Rattle.replay.proofs.Nothing.{nothing}
 use Rattle.replay.proofs.marks.mark.Goals as goal
-use Rattle.replay.proofs.marks.mark.Goals.{in-Whole, in-default}
+use Rattle.replay.proofs.marks.mark.Goals.{in-Whole, in_default}
 
 -- the page at i, at any default
 took : (xs : List Seen) (i : ℕ) (e d : Seen) (g : Group) → i < length xs → Gathers ((get_or xs i e).header ∷ taken i xs d) g → Gathers (taken (suc i) xs d) g
@@ -31,8 +31,8 @@ kept_other xs walk i flags g h other s m =
     let e : suc i ≡ i + 1 = omega arith in
     (marked_on xs walk i h flags g other s m, λ d. subst (λ n. Gathers (taken n xs d) g) e (s d))
 
-pub flag-last-requires : goal.flag-last-requires
-flag-last-requires c =
+pub flag_last-requires : goal.flag_last-requires
+flag_last-requires c =
     let xs = c.args.seen.now in
     let i = c.loop-i.i in
     let h : i < length xs = omega arith in
@@ -49,10 +49,10 @@ loop-i-preserved c =
     let h : i < length xs = omega arith in
     let s : (d : Seen) → Gathers (taken (suc i) xs d) c.take.new.self = λ d. took xs i _ d c.take.new.self h (c.take.ensures (taken i xs d) (c.loop-i.invariant.1 d)) in
     elim c.match-group.branch [
-      | in-Whole w ↦ subst (λ fs. Kept xs (i + 1) fs c.match-group.group) (sym w.flags-is) (subst (Kept xs (i + 1) w.flag-last.new.flags) (sym w.group-is)
-          (kept_whole xs c.requires.walk i w.in-Whole.size c.loop-i.flags w.flag-last.new.flags c.take.new.self h w.in-Whole.is s w.flag-last.ensures c.loop-i.invariant.0))
-      | in-default w ↦ subst (λ fs. Kept xs (i + 1) fs c.match-group.group) (sym w.flags-is) (subst (Kept xs (i + 1) c.loop-i.flags) (sym w.group-is)
-          (kept_other xs c.requires.walk i c.loop-i.flags c.take.new.self h w.in-default.not-Whole s c.loop-i.invariant.0))
+      | in-Whole w ↦ subst (λ fs. Kept xs (i + 1) fs c.match-group.group) (sym w.flags-is) (subst (Kept xs (i + 1) w.flag_last.new.flags) (sym w.group-is)
+          (kept_whole xs c.requires.walk i w.in-Whole.size c.loop-i.flags w.flag_last.new.flags c.take.new.self h w.in-Whole.is s w.flag_last.ensures c.loop-i.invariant.0))
+      | in_default w ↦ subst (λ fs. Kept xs (i + 1) fs c.match-group.group) (sym w.flags-is) (subst (Kept xs (i + 1) c.loop-i.flags) (sym w.group-is)
+          (kept_other xs c.requires.walk i c.loop-i.flags c.take.new.self h w.in_default.not-Whole s c.loop-i.invariant.0))
     ]
 
 pub returns : goal.returns

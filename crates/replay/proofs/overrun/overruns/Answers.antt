@@ -6,8 +6,8 @@ use Rattle.tree.proofs.Deciding.{it_is_not}
 use Rattle.tree.proofs.Ordered.{one_entry, rising_of}
 use Rattle.replay.proofs.overrun.overruns.Goals as goal
 
-pub returns-in-default : goal.returns-in-default
-returns-in-default c = it_is_not _ (λ o. c.in-default.ensures o.entry o.there)
+pub returns-in_default : goal.returns-in_default
+returns-in_default c = it_is_not _ (λ o. c.in_default.ensures o.entry o.there)
 
 pub returns-then-key-gt0 : goal.returns-then-key-gt0
 returns-then-key-gt0 c =

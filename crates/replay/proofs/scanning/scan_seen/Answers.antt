@@ -17,53 +17,53 @@ use Rattle.replay.proofs.scanning.scan_seen.Goals as goal
 pub mark-requires : goal.mark-requires
 mark-requires g c = record { room = c.requires.sizes.1; walk = walkable (g.F.ReadFlash.chip c.args.flash.now) c.args.seen.now c.requires.remembers }
 
-pub returns-in-err-tree : goal.returns-in-err-tree
-returns-in-err-tree g c =
+pub returns-in_err-tree : goal.returns-in_err-tree
+returns-in_err-tree g c =
     let chip = g.F.ReadFlash.chip c.args.flash.now in
     let xs = c.args.seen.now in
-    let stop = c.in-err-tree.ensures in
-    let back = err_from_is_err_and c.from-residual.result c.from-residual.ensures.1 in
+    let stop = c.in_err-tree.ensures in
+    let back = err_from_is_err_and c.from_residual.result c.from_residual.ensures.1 in
     let worse = damaged chip xs c.requires.remembers (last_page chip xs c.requires.remembers c.requires.sizes.0) (no_tree stop.1) in
     subst (ScansSeen chip) (sym (back.1 ∙ ap Err (back.2 ∙ stop.0))) (refl, worse)
 
 pub collect-len-requires : goal.collect-len-requires
 collect-len-requires g c = (omega (arith, c.mark.auto.flags, c.requires.sizes.1), c.requires.sizes.1, small_parts (g.F.ReadFlash.chip c.args.flash.now) _ c.args.seen.now c.requires.remembers)
 
-pub returns-then-len-key-limit : goal.returns-then-len-key-limit
-returns-then-len-key-limit g c =
+pub returns-then-len-key_limit : goal.returns-then-len-key_limit
+returns-then-len-key_limit g c =
     let chip = g.F.ReadFlash.chip c.args.flash.now in
     let xs = c.args.seen.now in
-    let shown = c.in-ok-tree.ensures.0 in
+    let shown = c.in_ok-tree.ensures.0 in
     let slots = c.collect-len.new.slots in
     let len = c.collect-len.result in
-    let told = keys_told chip xs c.requires.remembers c.mark.new.flags c.mark.ensures _ (Among (nodes_of c.in-ok-tree.tree)) (take len slots) shown c.collect-len.ensures.collects in (
+    let told = keys_told chip xs c.requires.remembers c.mark.new.flags c.mark.ensures _ (Among (nodes_of c.in_ok-tree.tree)) (take len slots) shown c.collect-len.ensures.collects in (
       refl,
       damaged_keys chip xs c.requires.remembers (last_page chip xs c.requires.remembers c.requires.sizes.0) slots len
-          (omega (arith, c.collect-len.auto.slots, c.collect-len.ensures.within, c.requires.sizes.1)) told (omega (arith, c.if-len-key-limit.true, c.key_limit.ensures)),
+          (omega (arith, c.collect-len.auto.slots, c.collect-len.ensures.within, c.requires.sizes.1)) told (omega (arith, c.if-len-key_limit.true, c.key_limit.ensures)),
     )
 
-pub returns-then-has-overrun : goal.returns-then-has-overrun
-returns-then-has-overrun g c =
+pub returns-then-has_overrun : goal.returns-then-has_overrun
+returns-then-has_overrun g c =
     let chip = g.F.ReadFlash.chip c.args.flash.now in
     let xs = c.args.seen.now in
-    let shown = c.in-ok-tree.ensures.0 in
+    let shown = c.in_ok-tree.ensures.0 in
     let slots = c.collect-len.new.slots in
     let len = c.collect-len.result in
-    let nodes = nodes_of c.in-ok-tree.tree in
+    let nodes = nodes_of c.in_ok-tree.tree in
     let told = keys_told chip xs c.requires.remembers c.mark.new.flags c.mark.ensures _ (Among nodes) (take len slots) shown c.collect-len.ensures.collects in (
       refl,
       damaged_chunk chip xs c.requires.remembers (last_page chip xs c.requires.remembers c.requires.sizes.0) slots len
-          (omega (arith, c.collect-len.auto.slots, c.collect-len.ensures.within, c.requires.sizes.1)) told nodes shown (c.has-overrun.ensures.0 c.if-has-overrun.true),
+          (omega (arith, c.collect-len.auto.slots, c.collect-len.ensures.within, c.requires.sizes.1)) told nodes shown (c.has_overrun.ensures.0 c.if-has_overrun.true),
     )
 
-pub block-tops-requires : goal.block-tops-requires
-block-tops-requires g c =
+pub block_tops-requires : goal.block_tops-requires
+block_tops-requires g c =
     let formed = g.F.ReadFlash.formed c.args.flash.now in
     let chip = g.F.ReadFlash.chip c.args.flash.now in
     let some : 0 < g.F.ReadFlash.per_block = omega (arith, g.F.ReadFlash.sixteen) in
     record {
-      some = omega (arith, c.block-pages.ensures);
-      inside = λ i d h. subst (λ (n : ℕ). (get_or c.args.seen.now i d).place / n < 16) (sym c.block-pages.ensures) (within_blocks chip c.args.seen.now c.requires.remembers _ formed some c.requires.few.1 i d h);
+      some = omega (arith, c.block_pages.ensures);
+      inside = λ i d h. subst (λ (n : ℕ). (get_or c.args.seen.now i d).place / n < 16) (sym c.block_pages.ensures) (within_blocks chip c.args.seen.now c.requires.remembers _ formed some c.requires.few.1 i d h);
       rising = c.requires.remembers.rising;
     }
 
@@ -72,13 +72,13 @@ returns g c =
     let chip = g.F.ReadFlash.chip c.args.flash.now in
     let formed = g.F.ReadFlash.formed c.args.flash.now in
     let xs = c.args.seen.now in
-    let (shown, rooted, sound) = c.in-ok-tree.ensures in
+    let (shown, rooted, sound) = c.in_ok-tree.ensures in
     let slots = c.collect-len.new.slots in
     let len = c.collect-len.result in
-    let nodes = nodes_of c.in-ok-tree.tree in
+    let nodes = nodes_of c.in_ok-tree.tree in
     let told = keys_told chip xs c.requires.remembers c.mark.new.flags c.mark.ensures _ (Among nodes) (take len slots) shown c.collect-len.ensures.collects in
     let last = last_page chip xs c.requires.remembers c.requires.sizes.0 in
-    let spaced : c.block-pages.result ≡ (g.F.ReadFlash.chip c.args.flash.now).per_block = c.block-pages.ensures ∙ sym formed.spaced in (
+    let spaced : c.block_pages.result ≡ (g.F.ReadFlash.chip c.args.flash.now).per_block = c.block_pages.ensures ∙ sym formed.spaced in (
       record {
         top = last.top;
         is_top = last.is_top;
@@ -91,5 +91,5 @@ returns g c =
             (subst (λ (n : ℕ). Tops xs n c.block_tops.new.tops) spaced c.block_tops.ensures) b (omega (arith, c.requires.few.1, c.block_tops.auto.tops));
       },
       undamaged chip xs c.requires.remembers last slots len (omega (arith, c.collect-len.auto.slots, c.collect-len.ensures.within, c.requires.sizes.1)) told nodes shown sound
-          (omega (arith, c.if-len-key-limit.false, c.key_limit.ensures)) (λ o. both_ways c.has-overrun.result c.if-has-overrun.false (c.has-overrun.ensures.1 o)),
+          (omega (arith, c.if-len-key_limit.false, c.key_limit.ensures)) (λ o. both_ways c.has_overrun.result c.if-has_overrun.false (c.has_overrun.ensures.1 o)),
     )

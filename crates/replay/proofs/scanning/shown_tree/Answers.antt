@@ -29,18 +29,18 @@ part_long n slots h = let e : n - 0 ≡ n = omega arith in subst (λ (i : ℕ). 
 pub collect-len-requires : goal.collect-len-requires
 collect-len-requires g c = (c.requires.sizes.0, c.requires.sizes.1, small_parts (g.F.ReadFlash.chip c.args.flash.now) _ c.args.seen.now c.requires.remembers)
 
-pub returns-then-len-gt-ENTRY-LIMIT : goal.returns-then-len-gt-ENTRY-LIMIT
-returns-then-len-gt-ENTRY-LIMIT g c =
+pub returns-then-len-gt-ENTRY_LIMIT : goal.returns-then-len-gt-ENTRY_LIMIT
+returns-then-len-gt-ENTRY_LIMIT g c =
     let chip = g.F.ReadFlash.chip c.args.flash.now in
     let len = c.collect-len.result in
     let slots = c.collect-len.new.slots in (
       refl,
       many_entries (take (len - 0) slots) (told_part chip c.args.seen.now c.requires.remembers c.args.flags.now c.requires.marks c.args.floor len slots c.collect-len.ensures.collects)
-          (omega (arith, c.if-len-gt-ENTRY-LIMIT.true, part_long len slots (omega (arith, c.collect-len.auto.slots, c.collect-len.ensures.within, c.requires.sizes.1)))),
+          (omega (arith, c.if-len-gt-ENTRY_LIMIT.true, part_long len slots (omega (arith, c.collect-len.auto.slots, c.collect-len.ensures.within, c.requires.sizes.1)))),
     )
 
-pub read-tree-requires : goal.read-tree-requires
-read-tree-requires g c =
+pub read_tree-requires : goal.read_tree-requires
+read_tree-requires g c =
     let chip = g.F.ReadFlash.chip c.args.flash.now in
     let f = c.args.floor in
     let len = c.collect-len.result in
@@ -50,7 +50,7 @@ read-tree-requires g c =
       page = c.requires.page;
       on = c.requires.on;
       entries = entry_places chip f (take (len - 0) slots) told;
-      few = omega (arith, c.if-len-gt-ENTRY-LIMIT.false, part_long len slots (omega (arith, c.collect-len.auto.slots, c.collect-len.ensures.within, c.requires.sizes.1)));
+      few = omega (arith, c.if-len-gt-ENTRY_LIMIT.false, part_long len slots (omega (arith, c.collect-len.auto.slots, c.collect-len.ensures.within, c.requires.sizes.1)));
       rising = entry_files chip f (take (len - 0) slots) told;
     }
 
@@ -61,12 +61,12 @@ returns-in-None g c =
     let len = c.collect-len.result in
     let slots = c.collect-len.new.slots in
     let told = told_part chip c.args.seen.now c.requires.remembers c.args.flags.now c.requires.marks f len slots c.collect-len.ensures.collects in
-    let nodes = nodes_of c.in-ok-tree.tree in
-    let shown = tree_shown chip f (take (len - 0) slots) told (remembered_distinct chip c.args.seen.now c.requires.remembers) nodes c.in-ok-tree.ensures in (
+    let nodes = nodes_of c.in_ok-tree.tree in
+    let shown = tree_shown chip f (take (len - 0) slots) told (remembered_distinct chip c.args.seen.now c.requires.remembers) nodes c.in_ok-tree.ensures in (
       shown,
       all_rooted (Counts (LogOf chip) f) nodes shown c.in-None.ensures,
       tree_sound (Counts (LogOf chip) f) nodes shown (take (len - 0) slots) told
-          (omega (arith, c.if-len-gt-ENTRY-LIMIT.false, part_long len slots (omega (arith, c.collect-len.auto.slots, c.collect-len.ensures.within, c.requires.sizes.1)))) c.in-None.ensures,
+          (omega (arith, c.if-len-gt-ENTRY_LIMIT.false, part_long len slots (omega (arith, c.collect-len.auto.slots, c.collect-len.ensures.within, c.requires.sizes.1)))) c.in-None.ensures,
     )
 
 pub returns-in-Some : goal.returns-in-Some
@@ -76,6 +76,6 @@ returns-in-Some g c =
     let len = c.collect-len.result in
     let slots = c.collect-len.new.slots in
     let told = told_part chip c.args.seen.now c.requires.remembers c.args.flags.now c.requires.marks f len slots c.collect-len.ensures.collects in
-    let nodes = nodes_of c.in-ok-tree.tree in
-    let shown = tree_shown chip f (take (len - 0) slots) told (remembered_distinct chip c.args.seen.now c.requires.remembers) nodes c.in-ok-tree.ensures in
+    let nodes = nodes_of c.in_ok-tree.tree in
+    let shown = tree_shown chip f (take (len - 0) slots) told (remembered_distinct chip c.args.seen.now c.requires.remembers) nodes c.in_ok-tree.ensures in
     (refl, fault_shown (Counts (LogOf chip) f) nodes shown c.in-Some.field-0 c.in-Some.ensures)

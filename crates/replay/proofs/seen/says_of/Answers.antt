@@ -4,9 +4,9 @@ use Rattle.page.specs.declared.fields.Content.TheVariants as content
 use Rattle.page.specs.Fits.{fits, header_fits, file_fits, content_fits}
 use Rattle.replay.proofs.seen.says_of.Goals as goal
 
-pub overflow-add-result : goal.overflow-add-result
+pub overflow_add-result : goal.overflow_add-result
 unfolding fits
-overflow-add-result c =
+overflow_add-result c =
     let page = c.args.page.now in
     let parts = and_parts (header_fits page.header) (content_fits page.header page.content) c.requires in
     let chunk = subst (λ k. content_fits page.header k ≡ true) c.in-Chunk.is parts.1 in

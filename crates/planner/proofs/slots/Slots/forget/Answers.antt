@@ -10,13 +10,10 @@ keep_others-self-requires c = record { room = omega (arith, c.args.self.now.long
 pub invariant_of-self : goal.invariant_of-self
 invariant_of-self c =
     let s = c.args.self.now in
-    let k = c.keep_others-self in (
-      k.auto.items ∙ s.long,
-      (
-        omega (arith, k.ensures.few, s.few),
-        (
-          ∣ k.ensures.forgets.rising ∣₁,
-          (∣ forgets_narrow (listed s) (take k.result k.new.items) c.args.file k.ensures.forgets (the_narrow s) ∣₁, tt),
-        ),
-      ),
-    )
+    let k = c.keep_others-self in
+    record {
+      long = k.auto.items ∙ s.long;
+      few = omega (arith, k.ensures.few, s.few);
+      rising = ∣ k.ensures.forgets.rising ∣₁;
+      narrow = ∣ forgets_narrow (listed s) (take k.result k.new.items) c.args.file k.ensures.forgets (the_narrow s) ∣₁;
+    }

@@ -21,4 +21,9 @@ pub invariant_of-self : goal.invariant_of-self
 invariant_of-self c =
     let s = c.args.self.now in
     let w = moved s c.args.at c.requires (record { key = (get_or s.items c.args.at blank).key; block = c.args.block; index = c.args.index; number = c.args.number }) refl in
-    (w.0, (s.few, (w.1, (w.2, tt))))
+    record {
+      long = w.0;
+      few = s.few;
+      rising = w.1;
+      narrow = w.2;
+    }

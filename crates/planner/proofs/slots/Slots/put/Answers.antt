@@ -34,10 +34,13 @@ invariant_of-self c =
     let new = c.args.slot in
     let i = c.in-Some.at in
     let f = found s i new.key c.in-Some.ensures.0 c.in-Some.ensures.1 in
-    let b : new.key.part < 256 = omega arith in (
-      length-set s.items i new ∙ s.long,
-      (s.few, (∣ replaced_rising s.items s.len i new (long s) f.0 f.1 (slot_rises s) ∣₁, (∣ replaced_narrow s.items s.len i new (long s) f.0 f.1 (slot_rises s) b (slot_fits s) ∣₁, tt))),
-    )
+    let b : new.key.part < 256 = omega arith in
+    record {
+      long = length-set s.items i new ∙ s.long;
+      few = s.few;
+      rising = ∣ replaced_rising s.items s.len i new (long s) f.0 f.1 (slot_rises s) ∣₁;
+      narrow = ∣ replaced_narrow s.items s.len i new (long s) f.0 f.1 (slot_rises s) b (slot_fits s) ∣₁;
+    }
 
 pub returns-in-Some : goal.returns-in-Some
 returns-in-Some c =
@@ -63,7 +66,12 @@ invariant_of-self-in-Put c =
     let b : c.args.slot.key.part < 256 = omega arith in
     let p = c.in-Put.ensures in
     let w = put_in c.args.self.now c.args.slot c.insert_sorted.new.records b c.in_default.ensures p.0 p.1 p.2 in
-    (w.0, (w.1, (w.2, (w.3, tt))))
+    record {
+      long = w.0;
+      few = w.1;
+      rising = w.2;
+      narrow = w.3;
+    }
 
 pub returns-in-Put : goal.returns-in-Put
 returns-in-Put c =
@@ -93,7 +101,12 @@ unchanged s zs e = (
 pub invariant_of-self-in-Full : goal.invariant_of-self-in-Full
 invariant_of-self-in-Full c =
     let w = unchanged c.args.self.now c.insert_sorted.new.records c.in-Full.ensures.1 in
-    (w.0, (c.args.self.now.few, (w.1, (w.2, tt))))
+    record {
+      long = w.0;
+      few = c.args.self.now.few;
+      rising = w.1;
+      narrow = w.2;
+    }
 
 pub returns-in-Full : goal.returns-in-Full
 returns-in-Full c =

@@ -53,25 +53,16 @@ invariant_of-self c =
     let t = c.args.self.now in
     let pages = c.args.pages.now in
     let h = c.args.head in
-    let p = c.requires in (
-      length-set t.high h.block (t.last + length pages) ∙ t.tall,
-      (
-        t.slim,
-        (
-          t.small,
-          (
-            most t pages h c.args.after c.args.floor p.head p.some p.room p.floor p.limited p.written,
-            (
-              within t pages h c.args.after c.args.floor p.head p.some p.room p.floor p.limited p.written,
-              (
-                ∣ sound t pages h c.args.after c.args.floor p.head p.some p.room p.floor p.limited p.written ∣₁,
-                (∣ free t pages h c.args.after c.args.floor p.head p.some p.room p.floor p.limited p.written ∣₁, tt),
-              ),
-            ),
-          ),
-        ),
-      ),
-    )
+    let p = c.requires in
+    record {
+      tall = length-set t.high h.block (t.last + length pages) ∙ t.tall;
+      slim = t.slim;
+      small = t.small;
+      few = most t pages h c.args.after c.args.floor p.head p.some p.room p.floor p.limited p.written;
+      within = within t pages h c.args.after c.args.floor p.head p.some p.room p.floor p.limited p.written;
+      sound = ∣ sound t pages h c.args.after c.args.floor p.head p.some p.room p.floor p.limited p.written ∣₁;
+      spare = ∣ free t pages h c.args.after c.args.floor p.head p.some p.room p.floor p.limited p.written ∣₁;
+    }
 
 pub returns : goal.returns
 returns c =

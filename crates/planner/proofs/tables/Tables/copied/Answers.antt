@@ -89,22 +89,16 @@ invariant_of-self c =
     let h = c.in-Some.head in
     let i = c.args.slot in
     let f = c.args.floor in
-    let e = c.move_to.ensures in (
-      length-set t.high h.block (t.last + 1) ∙ t.tall,
-      (
-        t.slim,
-        (
-          t.small,
-          (
-            omega (arith, e.count, t.few),
-            (
-              within t m h i f c.in-Some.is c.requires e.count e.items,
-              (∣ sound t m h i f c.in-Some.is c.requires e.count e.items ∣₁, (keeps t m h i f c.in-Some.is c.requires e.count e.items, tt)),
-            ),
-          ),
-        ),
-      ),
-    )
+    let e = c.move_to.ensures in
+    record {
+      tall = length-set t.high h.block (t.last + 1) ∙ t.tall;
+      slim = t.slim;
+      small = t.small;
+      few = omega (arith, e.count, t.few);
+      within = within t m h i f c.in-Some.is c.requires e.count e.items;
+      sound = ∣ sound t m h i f c.in-Some.is c.requires e.count e.items ∣₁;
+      spare = keeps t m h i f c.in-Some.is c.requires e.count e.items;
+    }
 
 pub returns : goal.returns
 returns c =

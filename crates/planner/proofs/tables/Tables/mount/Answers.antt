@@ -7,4 +7,12 @@ invariant_of-result c =
     let x = c.args.scanned in
     let m = c.is_mountable.ensures.0 c.if-not-is_mountable.false in
     let few : x.slots.len ≤ 208 = judged_few x m.0 m.1 m.2 in
-    (x.tall, (m.1, (m.2, (few, (omega arith, (∣ m.0 ∣₁, (∣ m.3 ∣₁, tt)))))))
+    record {
+      tall = x.tall;
+      slim = m.1;
+      small = m.2;
+      few = few;
+      within = omega arith;
+      sound = ∣ m.0 ∣₁;
+      spare = ∣ m.3 ∣₁;
+    }

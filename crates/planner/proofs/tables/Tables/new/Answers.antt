@@ -8,19 +8,13 @@ pub invariant_of-result : goal.invariant_of-result
 invariant_of-result c =
     let slots = c.new.result in
     let none : slots.len ≡ 0 = sym (listed_long slots) ∙ ap length c.new.ensures in
-    let sizes : Sizes c.args.per_block c.args.blocks = record { wide = omega arith; slim = omega arith; tall = omega arith; small = omega arith } in (
-      refl,
-      (
-        sizes.slim,
-        (
-          sizes.small,
-          (
-            omega (arith, none),
-            (
-              omega (arith, sizes.wide),
-              (∣ fresh_sound slots c.args.per_block c.args.blocks none sizes ∣₁, (∣ (1, fresh_free slots c.args.per_block c.args.blocks none sizes) ∣₁, tt)),
-            ),
-          ),
-        ),
-      ),
-    )
+    let sizes : Sizes c.args.per_block c.args.blocks = record { wide = omega arith; slim = omega arith; tall = omega arith; small = omega arith } in
+    record {
+      tall = refl;
+      slim = sizes.slim;
+      small = sizes.small;
+      few = omega (arith, none);
+      within = omega (arith, sizes.wide);
+      sound = ∣ fresh_sound slots c.args.per_block c.args.blocks none sizes ∣₁;
+      spare = ∣ (1, fresh_free slots c.args.per_block c.args.blocks none sizes) ∣₁;
+    }

@@ -23,25 +23,16 @@ invariant_of-self c =
     let t = c.args.self.now in
     let b = c.args.block in
     let may = c.requires in
-    let o = writes t b may.0.real in (
-      length-set t.high b 0 ∙ t.tall,
-      (
-        t.slim,
-        (
-          t.small,
-          (
-            t.few,
-            (
-              omega arith,
-              (
-                ∣ open_sound (state t) (the_sound t) b may.0 (after t b) o ∣₁,
-                (opened_keeps (state t) (the_sound t) b (after t b) o t.phase c.phase_after-phase.result may c.phase_after-phase.ensures t.spare, tt),
-              ),
-            ),
-          ),
-        ),
-      ),
-    )
+    let o = writes t b may.0.real in
+    record {
+      tall = length-set t.high b 0 ∙ t.tall;
+      slim = t.slim;
+      small = t.small;
+      few = t.few;
+      within = omega arith;
+      sound = ∣ open_sound (state t) (the_sound t) b may.0 (after t b) o ∣₁;
+      spare = opened_keeps (state t) (the_sound t) b (after t b) o t.phase c.phase_after-phase.result may c.phase_after-phase.ensures t.spare;
+    }
 
 pub returns : goal.returns
 returns c =
