@@ -1,5 +1,5 @@
 -- The data pages of a chip, remembered in rising order of numbers, or why they cannot be.
-use Rattle.std.specs.Prelude.{◌≡◌, ℕ, ◌+◌, ◌<◌, ◌≤◌, true, false, ◌⊎◌, List, length, take, Ok, Err, Result, ◌≢◌, slice_index_or}
+use Rattle.std.specs.Prelude.{⊤, ◌≡◌, ℕ, ◌+◌, ◌<◌, ◌≤◌, true, false, ◌⊎◌, List, length, take, Ok, Err, Result, ◌≢◌, slice_index_or}
 use Rattle.flash.specs.declared.fault.FlashFault.TheVariants.{Off}
 use Rattle.flash.specs.Chip.{Chip, page}
 use Rattle.lookup.specs.Sorts.{InPlace}

@@ -5,7 +5,7 @@ use Rattle.object_store.specs.Shelf.{key_at}
 use Rattle.object_store.specs.Uses.{some_entry, entries_in}
 use Rattle.object_store.proofs.Entries.{entries_more, entries_all, told_is, tells}
 use Rattle.object_store.proofs.uses.count_entries.Goals as goal
-use Rattle.object_store.proofs.uses.count_entries.Goals.{then-is-entry, else-is-entry}
+use Rattle.object_store.proofs.uses.count_entries.Goals.{then-is_entry, else-is_entry}
 
 pub loop-index-preserved : goal.loop-index-preserved
 loop-index-preserved g c =
@@ -14,8 +14,8 @@ loop-index-preserved g c =
     let index = c.loop-index.index in
     let is = ap some_entry (told_is shelf (key_at ks index) c.in_ok-key.field-0 c.in_ok-key.ensures).1 in
     elim c.if-is_entry.branch [
-      | then-is-entry w ↦ entries_more ks index c.loop-index.entries c.if-is_entry.entries true c.loop-index.invariant (w.if-is_entry.ensures ∙ is) w.entries-is
-      | else-is-entry w ↦ entries_more ks index c.loop-index.entries c.if-is_entry.entries false c.loop-index.invariant (w.if-is_entry.ensures ∙ is) (omega (arith, w.entries-is))
+      | then-is_entry w ↦ entries_more ks index c.loop-index.entries c.if-is_entry.entries true c.loop-index.invariant (w.if-is_entry.ensures ∙ is) w.entries-is
+      | else-is_entry w ↦ entries_more ks index c.loop-index.entries c.if-is_entry.entries false c.loop-index.invariant (w.if-is_entry.ensures ∙ is) (omega (arith, w.entries-is))
     ]
 
 pub returns : goal.returns

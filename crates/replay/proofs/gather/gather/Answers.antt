@@ -3,7 +3,7 @@ use Rattle.std.proofs.lemmas.Result.{err_from_is_err_and}
 use Rattle.flash.specs.Chip.{page}
 use Rattle.flash.proofs.Filling.{filled_whole}
 use Rattle.page.specs.Decoded.{decoded}
-use Rattle.replay.specs.Remembers.{GathersAll}
+use Rattle.replay.specs.Remembers.{GathersAll, Powered}
 use Rattle.replay.proofs.Remembering.{step_on, step_stops, read_fits}
 use Rattle.replay.proofs.gather.gather.Goals as goal
 
@@ -23,8 +23,8 @@ loop-place-preserved g c =
     (ap decoded (sym whole) ∙ sym c.decode_work.ensures) read.1 c.loop-place.invariant.0 c.loop-place.invariant.1 c.in_ok-len.ensures in
     (short, remembers, λ some. read.0)
 
-pub returns-in_err-len : goal.returns-in_err-len
-returns-in_err-len g c =
+pub returns-in_err-len-clause-answer : goal.returns-in_err-len-clause-answer
+returns-in_err-len-clause-answer g c =
     let chip = g.F.ReadFlash.chip c.args.flash.now in
     let formed = g.F.ReadFlash.formed c.args.flash.now in
     let read = c.in_ok-read.ensures in
@@ -34,3 +34,8 @@ returns-in_err-len g c =
     (ap decoded (sym whole) ∙ sym c.decode_work.ensures) read.1 c.loop-place.invariant.1 c.in_err-len.ensures in
     let back = err_from_is_err_and c.from_residual-in_err-len.result c.from_residual-in_err-len.ensures.1 in
     subst (λ r. GathersAll chip r c.take_in.new.seen) (sym (back.1 ∙ ap Err (back.2 ∙ stops.0))) (read.0, stops.1)
+
+pub returns-in_err-len-clause-power : goal.returns-in_err-len-clause-power
+returns-in_err-len-clause-power g c =
+    let back = err_from_is_err_and c.from_residual-in_err-len.result c.from_residual-in_err-len.ensures.1 in
+    subst (λ r. Powered (g.F.ReadFlash.chip c.args.flash.now) r) (sym back.1) tt

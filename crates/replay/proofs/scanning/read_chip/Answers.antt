@@ -8,7 +8,8 @@ use Rattle.replay.proofs.scanning.read_chip.Goals as goal
 pub returns-then-len-eq0 : goal.returns-then-len-eq0
 returns-then-len-eq0 g c =
     let chip = g.F.ReadFlash.chip c.args.flash.now in
-    let (short, remembers, on) = c.in_ok-len.ensures in
+    let (short, remembers) = c.in_ok-len.ensures.answer in
+    let on = c.in_ok-len.ensures.power in
     let few : FewBlocks (g.F.ReadFlash.chip c.args.flash.now) =
     (omega (arith, c.blocks-blocks.ensures, c.if-blocks-lt-LEAST_BLOCKS.false), omega (arith, c.blocks-blocks.ensures, c.if-blocks-gt-BLOCK_LIMIT.false)) in (
       few,
@@ -19,7 +20,8 @@ returns-then-len-eq0 g c =
 pub scan_seen-requires : goal.scan_seen-requires
 scan_seen-requires g c =
     let chip = g.F.ReadFlash.chip c.args.flash.now in
-    let (short, remembers, on) = c.in_ok-len.ensures in
+    let (short, remembers) = c.in_ok-len.ensures.answer in
+    let on = c.in_ok-len.ensures.power in
     let few : FewBlocks (g.F.ReadFlash.chip c.args.flash.now) =
     (omega (arith, c.blocks-blocks.ensures, c.if-blocks-lt-LEAST_BLOCKS.false), omega (arith, c.blocks-blocks.ensures, c.if-blocks-gt-BLOCK_LIMIT.false)) in
     let e : c.in_ok-len.len ≡ c.in_ok-len.len - 0 = omega arith in
@@ -36,7 +38,8 @@ scan_seen-requires g c =
 pub returns : goal.returns
 returns g c =
     let chip = g.F.ReadFlash.chip c.args.flash.now in
-    let (short, remembers, on) = c.in_ok-len.ensures in
+    let (short, remembers) = c.in_ok-len.ensures.answer in
+    let on = c.in_ok-len.ensures.power in
     let few : FewBlocks (g.F.ReadFlash.chip c.args.flash.now) =
     (omega (arith, c.blocks-blocks.ensures, c.if-blocks-lt-LEAST_BLOCKS.false), omega (arith, c.blocks-blocks.ensures, c.if-blocks-gt-BLOCK_LIMIT.false)) in
     scans_from chip few (on (some_page chip _ (g.F.ReadFlash.formed c.args.flash.now) g.F.ReadFlash.sixteen few.0)) c.scan_seen.result c.scan_seen.ensures

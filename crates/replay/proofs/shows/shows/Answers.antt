@@ -6,7 +6,7 @@ use Rattle.replay.specs.declared.seen.Seen.{Seen}
 use Rattle.replay.proofs.Nothing.{nothing}
 use Rattle.replay.specs.Shows.{Counted_at, SaidTo}
 use Rattle.replay.proofs.shows.shows.Goals as goal
-use Rattle.replay.proofs.shows.shows.Goals.{else-counts-via-then-counts+else-said-to, else-counts-via-else-counts}
+use Rattle.replay.proofs.shows.shows.Goals.{else-counts-via-then-counts+else-said_to, else-counts-via-else-counts}
 
 below : (a b : ℕ) → a < b + 1 → (a ≡ b → ⊥) → a < b
 below a b h ne = omega arith
@@ -18,7 +18,7 @@ loop-j-preserved c =
     let key = c.in-Sets.key in
     let here : (d : Seen) → Counted_at xs c.args.flags.now c.args.floor j → SaidTo (get_or xs j d).says key → ⊥ =
     λ d counted said. elim c.else-counts.branch [
-      | else-counts-via-then-counts+else-said-to w ↦ both_ways w.said_to.result w.if-said_to.false (w.said_to.ensures.1 (subst (λ (s : Seen). SaidTo s.says key) (get_or_default xs j d nothing c.loop-j-test.true) said))
+      | else-counts-via-then-counts+else-said_to w ↦ both_ways w.said_to.result w.if-said_to.false (w.said_to.ensures.1 (subst (λ (s : Seen). SaidTo s.says key) (get_or_default xs j d nothing c.loop-j-test.true) said))
       | else-counts-via-else-counts w ↦ both_ways c.counts-in-loop-j.result w.if-counts.false (c.counts-in-loop-j.ensures.1 counted)
     ] in
     λ k d lt h counted said. elim (ℕ_discrete k j) [
