@@ -17,11 +17,11 @@ pub returns-in-Err : goal.returns-in-Err
 returns-in-Err g c =
     let says = c.in-Err.ensures.answer.page refl in
     record {
-      within = omega (arith, refusal_short c.number.result c.number.type-inv, c.put-refusal.ensures.ends);
+      within = omega (arith, refusal_short c.number.result c.number.type_inv, c.put_refusal.ensures.ends);
       buffer = record {
         answer = Err c.in-Err.fault;
         listed = c.list.new.buffer;
         lists = says;
-        told = writes_as _ _ _ _ _ _ (ap refusal_line c.number.ensures) c.put-refusal.ensures;
+        told = writes_as _ _ _ _ _ _ (ap refusal_line c.number.ensures) c.put_refusal.ensures;
       };
     }

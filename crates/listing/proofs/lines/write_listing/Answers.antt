@@ -16,8 +16,8 @@ here xs ys e i h = subst (λ (zs : List Node). Among zs (get_or xs i nothing).fi
 pub loop-i-init : goal.loop-i-init
 loop-i-init c = ([], refl, omega arith, writes_none c.args.buffer.now)
 
-pub put-line-end-requires : goal.put-line-end-requires
-put-line-end-requires c =
+pub put_line-end-requires : goal.put_line-end-requires
+put_line-end-requires c =
     let t = c.args.tree.now in
     let (text, lines, few, writes) = c.loop-i.invariant in
     let at = here c.nodes-nodes.result.now (nodes_of t) c.nodes-nodes.ensures c.loop-i.i c.loop-i-test.true in
@@ -35,14 +35,14 @@ loop-i-preserved c =
     let i = c.loop-i.i in
     let same = c.nodes-nodes.ensures in
     let (text, lines, few, writes) = c.loop-i.invariant in
-    let (one, is, short, wrote) = c.put-line-end.ensures in
+    let (one, is, short, wrote) = c.put_line-end.ensures in
     let h : i < length (nodes_of t) = omega (arith, c.loop-i-test.true, ap length same) in
     let more : map file_of (take (i + 1) (nodes_of t)) ≡ map file_of (take i (nodes_of t)) ++ ((get_or xs i nothing).file ∷ []) =
     map_more file_of (nodes_of t) i nothing h ∙ ap (λ (ys : List Node). map file_of (take i (nodes_of t)) ++ ((get_or ys i nothing).file ∷ [])) (sym same) in (
       text ++ one,
       subst (λ (fs : List ℕ). Lines (Among (nodes_of t)) fs (text ++ one)) (sym more) (lines_more (Among (nodes_of t)) (map file_of (take i (nodes_of t))) (get_or xs i nothing).file text one lines is),
       omega (arith, few, short, length-append text one),
-      writes_more c.args.buffer.now c.loop-i.buffer c.put-line-end.new.out 0 c.loop-i.end c.put-line-end.result text one
+      writes_more c.args.buffer.now c.loop-i.buffer c.put_line-end.new.out 0 c.loop-i.end c.put_line-end.result text one
           (omega (arith, c.requires.room, few, c.loop-i-test.true, ap length same, long_of t, t.room)) writes wrote,
     )
 

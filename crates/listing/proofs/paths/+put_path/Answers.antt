@@ -28,25 +28,25 @@ module _ (t : Tree) (node d : Node) (names : ℕ) (x : Among (nodes_of t) node.f
   down path p =
       stands_below (Among (nodes_of t)) names node.file node.entry path (some t node names s) x back.0 (subst (λ f. Stands (Among (nodes_of t)) (names - 1) f path) above.1 p)
 
-pub overflow-sub-names : goal.overflow-sub-names
-overflow-sub-names t c = let ne = some c.args.tree.now c.args.node c.args.names c.requires.stands in omega arith
+pub overflow_sub-names : goal.overflow_sub-names
+overflow_sub-names t c = let ne = some c.args.tree.now c.args.node c.args.names c.requires.stands in omega arith
 
-pub put-path-end-requires : goal.put-path-end-requires
-put-path-end-requires t c =
+pub put_path-end-requires : goal.put_path-end-requires
+put_path-end-requires t c =
     let ne = some c.args.tree.now c.args.node c.args.names c.requires.stands in
     let above = c.in-Some.ensures in (
       omega (arith, c.decreases),
       (omega (arith, c.requires.room), (above.2, up c.args.tree.now c.args.node c.in-Some.directory c.args.names c.requires.there c.requires.stands above)),
     )
 
-pub put-name-requires : goal.put-name-requires
-put-name-requires t c =
+pub put_name-requires : goal.put_name-requires
+put_name-requires t c =
     let ne = some c.args.tree.now c.args.node c.args.names c.requires.stands in
-    let (path, stands, writes) = c.put-path-end.ensures in
-    omega (arith, c.requires.room, writes.ends, path_short _ _ _ path stands, c.put-path-end.auto.out)
+    let (path, stands, writes) = c.put_path-end.ensures in
+    omega (arith, c.requires.room, writes.ends, path_short _ _ _ path stands, c.put_path-end.auto.out)
 
-pub put-name-requires-in-None : goal.put-name-requires-in-None
-put-name-requires-in-None t c =
+pub put_name-requires-in-None : goal.put_name-requires-in-None
+put_name-requires-in-None t c =
     let ne = some c.args.tree.now c.args.node c.args.names c.requires.stands in
     omega (arith, c.requires.room)
 
@@ -54,12 +54,12 @@ pub returns-in-Some : goal.returns-in-Some
 returns-in-Some t c =
     let node = c.args.node in
     let ne = some c.args.tree.now node c.args.names c.requires.stands in
-    let (path, stands, writes) = c.put-path-end.ensures in
+    let (path, stands, writes) = c.put_path-end.ensures in
     let short = path_short _ _ _ path stands in (
       path ++ (47 ∷ name_text node.entry.name),
       down c.args.tree.now node c.in-Some.directory c.args.names c.requires.there c.requires.stands c.in-Some.ensures path stands,
-      writes_more c.args.out.now c.put-path-end.new.out c.put-name.new.out c.args.at c.put-path-end.result c.put-name.result path (47 ∷ name_text node.entry.name)
-          (omega (arith, c.requires.room)) writes c.put-name.ensures,
+      writes_more c.args.out.now c.put_path-end.new.out c.put_name.new.out c.args.at c.put_path-end.result c.put_name.result path (47 ∷ name_text node.entry.name)
+          (omega (arith, c.requires.room)) writes c.put_name.ensures,
     )
 
 pub returns-in-None : goal.returns-in-None
@@ -67,4 +67,4 @@ returns-in-None t c =
     let tree = c.args.tree.now in
     let node = c.args.node in
     let ne = some tree node c.args.names c.requires.stands in
-    (_, stands_root (Among (nodes_of tree)) c.args.names node.file node.entry ne c.requires.there c.in-None.ensures, c.put-name-in-None.ensures)
+    (_, stands_root (Among (nodes_of tree)) c.args.names node.file node.entry ne c.requires.there c.in-None.ensures, c.put_name-in-None.ensures)

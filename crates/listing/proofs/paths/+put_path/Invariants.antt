@@ -1,4 +1,4 @@
 use Rattle.listing.proofs.paths.+put_path.Given as goal
 
-abbrev pub decreases-put-path : goal.decreases-put-path
-decreases-put-path l = l.names
+abbrev pub decreases-put_path : goal.decreases-put_path
+decreases-put_path l = l.names
