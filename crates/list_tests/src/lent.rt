@@ -44,6 +44,6 @@ fn lines_fill_the_buffer_from_its_start(rt: HostRuntime) {
     let answer = list(&DumpFlash::new(flash.bytes()), &mut work, &mut buffer);
     assert!(rt; answer.is_ok());
     assert!(rt; work == [0xff; PAGE_BYTES]);
-    assert!(rt; &buffer[0..22] == b"d 0 /cal\nf 3 /cal/arc\n");
+    assert!(rt; &buffer[0..22] == b"d 0 /cal\nf 3 /cal/arc\n".as_slice());
     assert!(rt; &buffer[22..LISTING_BYTES] == [7; 12458].as_slice());
 }

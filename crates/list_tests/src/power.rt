@@ -13,7 +13,7 @@ fn two_images_list_as_one(rt: HostRuntime) {
     let second = ImageFlash::new(&mut right, Fuse::Intact);
     let mut text = [0; LISTING_BYTES];
     let end = put_answer(&JoinedFlash::new(first, second), &mut text);
-    assert!(rt; &text[0..end] == b"d 0 /cal\nf 3 /cal/arc\n");
+    assert!(rt; &text[0..end] == b"d 0 /cal\nf 3 /cal/arc\n".as_slice());
 }
 
 #[test]
