@@ -1,5 +1,5 @@
 -- Chips page by page: when two are one, and what a program leaves of each page.
-use Rattle.std.proofs.Common.{◌≡◌, ℕ, ◌<◌, Bool, ◌≢◌, ◌⊎◌, List, [], ◌∷◌, length, get_or, sym, refl, ap, ◌∙◌, inl, inr}
+use Rattle.std.proofs.Common.{◌≡◌, ℕ, ◌<◌, Bool, ◌≢◌, ◌⊎◌, List, [], length, get_or, ap, ◌∙◌, inl, inr}
 use lib.Bits.{bit_and, bit_xor, xor_self, and_zero_l, and_zero_r}
 use Rattle.std.proofs.lemmas.List.{get_or-set_other, get_or-set_same, ext_get_or}
 use Rattle.flash.specs.Chip.{Chip, Mixed, page, cleared, programmed}

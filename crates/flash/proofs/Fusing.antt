@@ -1,8 +1,8 @@
 -- How far a fuse lets an operation come.
-use Rattle.std.proofs.Common.{◌≡◌, ℕ, ◌≤◌, min, Bool, true, false, cond, not, eqb, sym, refl, ap, ◌∙◌, arith}
+use Rattle.std.proofs.Common.{◌≡◌, ℕ, ◌≤◌, min, Bool, true, false, cond, not, eqb, refl, ap, arith}
 use Rattle.flash.specs.declared.fuse.Fuse.{Fuse}
 use Rattle.flash.specs.declared.fuse.Fuse.TheVariants.{Intact, Set}
-use Rattle.flash.specs.Fuses.{blows_at, reach_of, burnt_of}
+use Rattle.flash.specs.Fuses.{blows_at, reach_of}
 
 pub reach_within : (f : Fuse) (n : ℕ) → reach_of f n ≤ n
 reach_within Intact n = omega arith

@@ -1,5 +1,5 @@
 -- A program or an erase of an image, from what its steps left to what its contract says.
-use Rattle.std.proofs.Common.{◌≡◌, ℕ, ◌+◌, ◌-◌, ◌*◌, ◌/◌, ◌<◌, ◌≤◌, min, Bool, true, false, cond, not, ltb, List, [], ◌∷◌, ◌++◌, length, take, drop, replicate, Ok, Err, Result, sym, refl, ap, ◌∙◌, subst, arith, length-take, le-ltb, lt-ltb}
+use Rattle.std.proofs.Common.{◌≡◌, ℕ, ◌+◌, ◌-◌, ◌*◌, ◌<◌, ◌≤◌, Bool, true, false, cond, ltb, List, ◌++◌, length, take, drop, replicate, Ok, Err, Result, sym, refl, ap, ◌∙◌, subst, arith, lt-ltb}
 use borrow.Rule.Slice.PartMut.{put_mid}
 use lib.Seq.{paste}
 use Rattle.std.proofs.lemmas.List.{take-take, length-replicate, length-take-le, take-replicate}
@@ -7,7 +7,7 @@ use Rattle.std.proofs.lemmas.Slice.{put_mid-paste}
 use Rattle.flash.specs.declared.fault.FlashFault.{FlashFault}
 use Rattle.flash.specs.declared.fault.FlashFault.TheVariants.{Off, Range, Program, Erase}
 use Rattle.flash.specs.declared.fuse.Fuse.{Fuse}
-use Rattle.flash.specs.Chip.{Chip, Torn, cleared, programmed, erased}
+use Rattle.flash.specs.Chip.{Torn, cleared, programmed, erased}
 use Rattle.flash.specs.Cuts.{image_long}
 use Rattle.flash.specs.Fuses.{blows_at, reach_of, burnt_of}
 use Rattle.flash.specs.Image.{image_blocks, image_chip}

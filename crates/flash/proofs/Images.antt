@@ -1,11 +1,11 @@
 -- What putting bytes into an image makes of its chip.
-use Rattle.std.proofs.Common.{◌≡◌, ℕ, zero, suc, ◌+◌, ◌-◌, ◌*◌, ◌/◌, ◌%◌, ◌<◌, ◌≤◌, min, Bool, false, ◌≢◌, ◌⊎◌, List, [], ◌∷◌, ◌++◌, length, get_or, take, drop, set, replicate, sym, refl, ap, ◌∙◌, subst, inl, inr, arith, length-append, length-drop, length-set, length-take}
+use Rattle.std.proofs.Common.{◌≡◌, ℕ, ◌+◌, ◌-◌, ◌*◌, ◌/◌, ◌%◌, ◌<◌, ◌≤◌, min, Bool, false, ◌≢◌, ◌⊎◌, List, [], length, get_or, take, drop, set, replicate, sym, refl, ap, ◌∙◌, inl, inr, arith, length-drop, length-set, length-take}
 use native.Mathlib.Decide.{dec_lt, ℕ_discrete}
 use lib.Bits.{bit_and}
 use lib.Seq.{paste}
 use Rattle.std.proofs.lemmas.Nat.{and_mod, and_le_l}
-use Rattle.std.proofs.lemmas.List.{get_or-set_other, get_or-set_same, get_or_past, ext_get_or, get_or-take, get_or-drop, get_or-replicate, length-replicate, length-take-le, get_or_append_left, get_or-append_right}
-use Rattle.flash.specs.Chip.{Chip, Torn, Mixed, page, blank, cleared, programmed, erased}
+use Rattle.std.proofs.lemmas.List.{get_or-set_other, get_or-set_same, get_or_past, ext_get_or, get_or-take, get_or-drop, get_or-replicate, length-replicate}
+use Rattle.flash.specs.Chip.{Chip, Torn, page, blank, cleared, programmed, erased}
 use Rattle.flash.specs.Image.{image_blocks, cut, octets, image_chip}
 use Rattle.flash.specs.Cuts.{length_cut, cut_byte, cut_wide, octet_at, length_octets, image_fits, image_long, image_byte, image_wide, past_zero}
 use Rattle.flash.proofs.Chips.{mixed_byte}

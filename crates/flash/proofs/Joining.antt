@@ -1,9 +1,8 @@
 -- A joined flash, from the answer of the flash that was asked to what the contract says.
-use Rattle.std.proofs.Common.{◌≡◌, ℕ, ◌+◌, ◌-◌, ◌*◌, ◌<◌, ◌≤◌, min, Bool, true, false, ◌&&◌, ltb, ◌⊎◌, List, length, Ok, Err, Result, sym, refl, ap, ◌∙◌, subst, inl, inr, arith, ltb-false}
+use Rattle.std.proofs.Common.{◌≡◌, ℕ, ◌-◌, ◌*◌, ◌<◌, ◌≤◌, true, false, ltb, List, length, Err, Result, sym, refl, ap, ◌∙◌, subst, inl, inr, arith, ltb-false}
 use borrow.Author.Tests.{both_ways}
 use Rattle.std.proofs.lemmas.Bool.{and_parts}
 use Rattle.flash.specs.declared.fault.FlashFault.{FlashFault}
-use Rattle.flash.specs.declared.fault.FlashFault.TheVariants.{Off, Range}
 use Rattle.flash.specs.Chip.{Chip, Formed}
 use Rattle.flash.specs.Faults.{Admits}
 use Rattle.flash.specs.Joined.{joined, joined_blocks, retold, ProgramsOne, ErasesOne}

@@ -1,5 +1,5 @@
 -- A call that was not admitted: it is answered as the meaning says, and nothing has changed.
-use Rattle.std.proofs.Common.{◌≡◌, ℕ, ◌*◌, ◌<◌, ◌≤◌, Bool, true, false, cond, ltb, List, length, take, drop, replicate, IsErrAnd, Ok, Err, Result, sym, refl, ap, ◌∙◌, arith, ltb-false, ltb-true}
+use Rattle.std.proofs.Common.{◌≡◌, ℕ, ◌*◌, ◌≤◌, Bool, true, false, cond, ltb, List, length, take, drop, replicate, IsErrAnd, Ok, Err, Result, sym, refl, ap, ◌∙◌, arith}
 use borrow.Author.Tests.{both_ways}
 use Rattle.std.proofs.lemmas.Result.{err_from_is_err_and}
 use Rattle.flash.specs.declared.fault.FlashFault.{FlashFault}

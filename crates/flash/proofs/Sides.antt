@@ -1,11 +1,11 @@
 -- What one of two flashes does, the two end to end do.
-use Rattle.std.proofs.Common.{◌≡◌, ℕ, ◌+◌, ◌-◌, ◌*◌, ◌<◌, ◌≤◌, min, Bool, true, false, ◌&&◌, ◌≢◌, ◌⊎◌, List, [], ◌∷◌, ◌++◌, length, get_or, Ok, Err, Result, sym, refl, ap, ◌∙◌, subst, inl, inr, mul-le-mul_left, mul-add, arith, length-set}
+use Rattle.std.proofs.Common.{◌≡◌, ℕ, ◌+◌, ◌-◌, ◌*◌, ◌<◌, ◌≤◌, min, true, false, ◌&&◌, ◌≢◌, List, length, Ok, Err, Result, sym, refl, ap, ◌∙◌, subst, mul-le-mul_left, mul-add, arith, length-set}
 use native.Mathlib.Decide.{dec_lt, ℕ_discrete}
 use borrow.Author.Tests.{both_ways}
 use Rattle.std.proofs.lemmas.Bool.{and_from, and_right}
 use Rattle.flash.specs.declared.fault.FlashFault.{FlashFault}
 use Rattle.flash.specs.declared.fault.FlashFault.TheVariants.{Off, Range, Program, Erase}
-use Rattle.flash.specs.Chip.{Chip, Torn, Mixed, filled, page, blank, cleared, programmed, erased}
+use Rattle.flash.specs.Chip.{Chip, Torn, Mixed, filled, page, cleared, programmed, erased}
 use Rattle.flash.specs.Joined.{joined, joined_blocks, retold}
 use Rattle.flash.specs.Joins.{Shaped, first_within, joined_long, look_first, look_second, look_past, second_within}
 use Rattle.flash.specs.Says.{Reads, Programs, Erases}

@@ -1,5 +1,5 @@
 -- What a flash chip is, and what programming and erasing do to it.
-use Rattle.std.specs.Prelude.{◌≡◌, ℕ, ◌+◌, ◌*◌, ◌<◌, ◌≤◌, Bool, true, false, List, [], ◌∷◌, ◌++◌, length, take, drop, replicate, bit_and, bit_xor, slice_index, slice_index_or, slice_set}
+use Rattle.std.specs.Prelude.{◌≡◌, ℕ, ◌+◌, ◌*◌, ◌<◌, ◌≤◌, Bool, false, List, [], ◌∷◌, ◌++◌, length, take, drop, replicate, bit_and, bit_xor, slice_index, slice_index_or, slice_set}
 
 -- so many blocks of so many pages each; a page is a list of bytes; and a power that is on or off
 pub record Chip : Type 0 where

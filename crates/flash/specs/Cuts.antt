@@ -1,9 +1,9 @@
 -- Bytes cut into pages: each page, each byte of it, and the chip that they make.
-use Rattle.std.specs.Prelude.{◌≡◌, ℕ, zero, suc, ◌+◌, ◌-◌, ◌*◌, ◌/◌, ◌%◌, ◌<◌, ◌≤◌, min, Bool, List, [], ◌∷◌, map, length, get_or, take, drop, slice_index, slice_index_or, slice_range, refl}
-use Rattle.std.proofs.Common.{sym, ap, ◌∙◌, arith, length-take, length-drop}
+use Rattle.std.specs.Prelude.{◌≡◌, ℕ, zero, suc, ◌+◌, ◌-◌, ◌*◌, ◌%◌, ◌<◌, ◌≤◌, Bool, List, [], ◌∷◌, length, get_or, take, drop, slice_index, slice_index_or, slice_range, refl}
+use Rattle.std.proofs.Common.{ap, ◌∙◌, arith, length-take, length-drop}
 use Rattle.std.proofs.Math.Decide.{dec_lt}
-use Rattle.std.proofs.lemmas.List.{drop-drop, get_or-take, get_or-drop, get_or_past, get_or-map, ext_get_or, length-map}
-use Rattle.flash.specs.Chip.{Chip, Formed, page}
+use Rattle.std.proofs.lemmas.List.{drop-drop, get_or-take, get_or-drop, get_or_past, ext_get_or, length-map}
+use Rattle.flash.specs.Chip.{Formed, page}
 use Rattle.flash.specs.Image.{image_blocks, cut, octets, image_chip}
 
 pub length_cut : (n : ℕ) (xs : List ℕ) → length (cut n xs) ≡ n

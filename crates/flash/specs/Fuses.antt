@@ -1,5 +1,5 @@
 -- When a fuse cuts the power, and how much of the operation is done by then.
-use Rattle.std.specs.Prelude.{ℕ, ◌-◌, min, Bool, true, false, cond, ◌==◌}
+use Rattle.std.specs.Prelude.{ℕ, ◌-◌, min, Bool, false, cond, ◌==◌}
 use Rattle.flash.specs.declared.fuse.Fuse.{Fuse}
 use Rattle.flash.specs.declared.fuse.Fuse.TheVariants.{Intact, Set}
 

@@ -1,6 +1,6 @@
 -- Two chips end to end keep what every chip keeps: the proof that the joined flash holds.
-use Rattle.std.specs.Prelude.{◌≡◌, ℕ, ◌+◌, ◌-◌, ◌*◌, ◌<◌, ◌≤◌, min, List, [], ◌++◌, length, take, slice_index, slice_index_or, refl}
-use Rattle.std.proofs.Common.{sym, ap, subst, ◌∙◌, mul-le-mul_left, mul-add, arith, length-append}
+use Rattle.std.specs.Prelude.{◌≡◌, ℕ, ◌+◌, ◌-◌, ◌*◌, ◌<◌, ◌≤◌, [], ◌++◌, length, take, slice_index, slice_index_or, refl}
+use Rattle.std.proofs.Common.{ap, subst, ◌∙◌, mul-le-mul_left, mul-add, arith, length-append}
 use Rattle.std.proofs.Math.Decide.{dec_lt}
 use Rattle.std.proofs.lemmas.List.{get_or_append_left, get_or-append_right, get_or-take, get_or_past, length-take-le}
 use Rattle.flash.specs.Chip.{Chip, Formed, page}

@@ -1,5 +1,5 @@
 -- How many of some pages are in each state, and which numbers the data pages among them have.
-use Rattle.std.specs.Prelude.{◌≡◌, ℕ, ◌-◌, ◌<◌, ◌≤◌, min, max, Bool, true, false, List, [], length, Some, None, Ok, Err, count_by, Option, Result, MatchOption, slice_index_or}
+use Rattle.std.specs.Prelude.{◌≡◌, ℕ, ◌<◌, ◌≤◌, min, max, Bool, true, false, List, [], length, Some, None, Ok, Err, count_by, Option, Result, MatchOption, slice_index_or}
 use Rattle.std.specs.List.{between}
 use Rattle.flash.specs.declared.fault.FlashFault.{FlashFault}
 use Rattle.flash.specs.declared.fault.FlashFault.TheVariants.{Off, Range, Program, Erase}

@@ -1,5 +1,5 @@
 -- From a scan's tree to the listing of its chip.
-use Rattle.std.proofs.Common.{◌≡◌, ℕ, ◌<◌, ◌≤◌, List, map, length, get_or, Err, sym, refl, ap, ◌∙◌, arith}
+use Rattle.std.proofs.Common.{ℕ, ◌<◌, ◌≤◌, List, map, length, get_or, Err, refl, ap, ◌∙◌, arith}
 use Rattle.std.proofs.lemmas.List.{get_or-map, length-map}
 use Rattle.flash.specs.Chip.{Chip}
 use Rattle.page.specs.declared.fields.Entry.{Entry}
@@ -7,8 +7,8 @@ use Rattle.replay.specs.declared.fault.ReplayFault.{ReplayFault}
 use Rattle.replay.specs.declared.fault.ReplayFault.TheVariants.{WorkPage, Buffer, Blocks, Flash, Empty, Damaged}
 use Rattle.replay.specs.declared.tables.Scan.{Scan}
 use Rattle.replay.specs.Damage.{Scanned, Scans}
-use Rattle.replay.specs.Entries.{EntryShown, TreeShown}
-use Rattle.replay.specs.Log.{Log, LogOf, floor_of, Counts}
+use Rattle.replay.specs.Entries.{EntryShown}
+use Rattle.replay.specs.Log.{LogOf, floor_of, Counts}
 use Rattle.replay.proofs.Lengths.{entry_short}
 use Rattle.tree.specs.declared.node.Node.{Node}
 use Rattle.tree.specs.Table.{file_of, nodes_of, Rising}

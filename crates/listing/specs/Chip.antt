@@ -6,7 +6,7 @@ use Rattle.replay.specs.declared.fault.ReplayFault.{ReplayFault}
 use Rattle.replay.specs.declared.fault.ReplayFault.TheVariants.{WorkPage, Buffer, Blocks, Flash, Empty, Damaged}
 use Rattle.replay.specs.Damage.{Damage, FewBlocks, Scans}
 use Rattle.replay.specs.Entries.{EntryShown}
-use Rattle.replay.specs.Log.{Log, LogOf, Logged, floor_of, Counts, Top}
+use Rattle.replay.specs.Log.{LogOf, Logged, floor_of, Counts, Top}
 use Rattle.tree.specs.Tree.{Entries}
 use Rattle.listing.specs.Listing.{Lines}
 

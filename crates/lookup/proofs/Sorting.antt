@@ -1,9 +1,9 @@
 -- A record put after those that lead it.
-use Rattle.std.proofs.Common.{◌≡◌, ℕ, ◌+◌, ◌-◌, ◌<◌, ◌≤◌, Bool, true, false, ◌⊎◌, List, length, get_or, take, sym, refl, ap, ◌∙◌, subst, inl, inr, arith}
+use Rattle.std.proofs.Common.{◌≡◌, ℕ, ◌-◌, ◌<◌, ◌≤◌, Bool, true, false, List, length, get_or, take, sym, ap, ◌∙◌, subst, inl, inr, arith}
 use Rattle.std.proofs.lemmas.List.{length-take-le, get_or-take}
 use Rattle.lookup.specs.declared.sorted.Placed.TheVariants.{Put}
 use Rattle.lookup.specs.Inserts.{Inserts, Leads}
-use Rattle.lookup.specs.Sorts.{InPlace, Sorts}
+use Rattle.lookup.specs.Sorts.{Sorts}
 
 module _ {R : Type 0} (ranked : R → ℕ) (xs : List R) (len at rank : ℕ) (new : R) (is : rank ≡ ranked new) (room : len < length xs)
     (leads : Leads ranked (take (len - 0) xs) rank at) where

@@ -1,12 +1,12 @@
 -- How many keys a batch leaves: those that stay, and the new ones that it brings.
-use Rattle.std.proofs.Common.{◌≡◌, ℕ, ◌+◌, ◌≤◌, Bool, true, false, cond, not, ◌&&◌, ◌||◌, List, [], ◌∷◌, ◌++◌, map, length, filter, sym, refl, ap, ◌∙◌, arith}
+use Rattle.std.proofs.Common.{◌≡◌, ℕ, ◌+◌, ◌≤◌, Bool, true, false, cond, not, ◌&&◌, ◌||◌, List, [], ◌∷◌, ◌++◌, length, filter, sym, refl, ap, ◌∙◌, arith}
 use Rattle.object.specs.declared.key.Key.{Key}
 use Rattle.object.specs.declared.value.Object.{Object}
 use Rattle.object_store.specs.declared.change.Change.{Change}
 use Rattle.object_store.specs.declared.change.Change.TheVariants.{Set, Remove}
 use Rattle.object_store.specs.Tables.{same_key, has_key, Rising}
 use Rattle.object_store.specs.Changes.{sets, sets_key, removes, in_order}
-use Rattle.object_store.specs.Counts.{stays, staying, brings, brought}
+use Rattle.object_store.specs.Counts.{stays, staying, brought}
 use Rattle.object_store.specs.Objects.{Objects, key_of, keys_of, put, after_batch}
 use Rattle.object_store.specs.Settled.{Placeable, spared, settle, settled}
 use Rattle.object_store.proofs.Keys.{same_file, rising_put, grown}

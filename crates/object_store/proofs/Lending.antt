@@ -8,7 +8,7 @@ use Rattle.object_store.specs.declared.fault.ObjectFault.TheVariants.{WorkPage, 
 use Rattle.object_store.specs.declared.kept.Kept.{Kept}
 use Rattle.object_store.specs.Fit.{Judges, fit, verdict}
 use Rattle.object_store.specs.Lent.{gap, shelf_of, table_shelf, TableWhole, table_verdict}
-use Rattle.object_store.specs.Objects.{Objects, key_of, keys_of, after_batch}
+use Rattle.object_store.specs.Objects.{key_of, keys_of, after_batch}
 use Rattle.object_store.specs.Says.{Batches, answer}
 use Rattle.object_store.specs.Shelf.{Sound}
 use Rattle.object_store.proofs.Keeping.{rising_after, fit_after, sound_of}

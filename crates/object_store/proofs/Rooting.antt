@@ -1,11 +1,11 @@
 -- No chunk is left without an entry exactly when every key that the batch sets stands.
-use Rattle.std.proofs.Common.{◌≡◌, ℕ, Bool, true, false, cond, not, ◌&&◌, ◌||◌, eqb, List, [], ◌∷◌, map, sym, refl, ap, ◌∙◌, ap₂, inl, inr, arith}
+use Rattle.std.proofs.Common.{◌≡◌, ℕ, Bool, true, false, cond, not, ◌&&◌, ◌||◌, eqb, List, [], ◌∷◌, sym, refl, ap, ◌∙◌, ap₂, inl, inr, arith}
 use Rattle.std.proofs.lemmas.Bool.{and_parts, and_from, or_parts, or_cases, or_left, or_right, not-true, eqb-true}
 use Rattle.object.specs.declared.key.Key.{Key}
 use Rattle.object_store.specs.declared.change.Change.{Change}
 use Rattle.object_store.specs.declared.change.Change.TheVariants.{Set, Remove}
 use Rattle.object_store.specs.Tables.{same_key, has_key, entry_of}
-use Rattle.object_store.specs.Changes.{sets, sets_key, sets_file, removes, in_order}
+use Rattle.object_store.specs.Changes.{sets_key, sets_file, removes, in_order}
 use Rattle.object_store.specs.Counts.{stands, all_stand}
 use Rattle.object_store.specs.Fit.{entered, rooted}
 use Rattle.object_store.specs.Objects.{Objects, key_of, keys_of, put, without, after_batch}

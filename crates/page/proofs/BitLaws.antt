@@ -1,5 +1,5 @@
 -- The fields of a page by its bytes: a field within one byte, a field in two parts, and a number of four bytes.
-use Rattle.std.proofs.Common.{◌≡◌, ℕ, zero, suc, ◌+◌, ◌-◌, ◌*◌, ◌/◌, ◌%◌, ◌^◌, ◌<◌, ◌≤◌, List, [], ◌∷◌, ◌++◌, length, get_or, sym, refl, ap, ◌∙◌, ap₂, add-zero, add_assoc, add-suc, mod-lt, mul_assoc, mul_comm, add-mul, pow-suc, mul-one, mul-add, add-one, arith, shr-shr}
+use Rattle.std.proofs.Common.{◌≡◌, ℕ, zero, suc, ◌+◌, ◌-◌, ◌*◌, ◌/◌, ◌%◌, ◌^◌, ◌<◌, ◌≤◌, List, get_or, sym, refl, ap, ◌∙◌, ap₂, add-zero, add_assoc, add-suc, mul_assoc, pow-suc, add-one, arith, shr-shr}
 use native.Mathlib.Nat.{mod-one}
 use lib.Pow.{mod-pow-add}
 use Rattle.page.specs.Bits.{bit, field}

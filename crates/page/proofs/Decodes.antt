@@ -1,5 +1,5 @@
 -- What is known of bytes that decode to a page.
-use Rattle.std.proofs.Common.{◌≡◌, ℕ, ◌≤◌, Bool, true, false, cond, eqb, List, Some, None, Ok, Err, Option, Result, sym, refl, ap, ◌∙◌, arith}
+use Rattle.std.proofs.Common.{◌≡◌, ℕ, Bool, true, false, cond, List, Some, None, Ok, Err, Option, Result, sym, refl, ap, ◌∙◌, arith}
 use Rattle.std.proofs.lemmas.Bool.{eqb-true}
 use Rattle.page.specs.declared.fields.Content.{Content}
 use Rattle.page.specs.declared.fields.Header.{Header}
@@ -7,7 +7,7 @@ use Rattle.page.specs.declared.fields.Page.{Page}
 use Rattle.page.specs.declared.fields.PageFault.{PageFault}
 use Rattle.page.specs.declared.fields.PageFault.TheVariants.{NotData, OutOfRange}
 use Rattle.page.specs.Code.{is_data, Settled, stored_count, zero_count}
-use Rattle.page.specs.Decoded.{checked, assembled, decoded}
+use Rattle.page.specs.Decoded.{assembled, decoded}
 use Rattle.page.specs.Fields.{header_at, content_at}
 use Rattle.page.specs.Fits.{fits}
 

@@ -1,7 +1,6 @@
 -- What a page that fits says of its fields, as facts in place of tests.
-use Rattle.std.proofs.Common.{◌≡◌, ℕ, ◌<◌, ◌≤◌, Bool, true, ◌&&◌, eqb, ltb, leb, List, sym, refl, ap, ◌∙◌, ap₂, arith}
+use Rattle.std.proofs.Common.{◌≡◌, ℕ, ◌<◌, ◌≤◌, true, arith}
 use Rattle.std.proofs.lemmas.Bool.{and_parts, leb-true, ltb-true, eqb-true}
-use Rattle.std.proofs.lemmas.Bool.Decides.{nat_tests}
 use Rattle.page.specs.declared.fields.Header.{Header}
 use Rattle.page.specs.declared.fields.EntryKind.{EntryKind}
 use Rattle.page.specs.declared.fields.EntryKind.TheVariants.{File, Directory}
@@ -9,7 +8,7 @@ use Rattle.page.specs.declared.fields.Entry.{Entry}
 use Rattle.page.specs.declared.names.Name.{Name}
 use Rattle.page.specs.Names.{allowed, name_text, is_padded, name_fits}
 use Rattle.page.specs.Encoded.{directory_bit}
-use Rattle.page.specs.Fits.{header_fits, file_fits, length_fits, entry_fits}
+use Rattle.page.specs.Fits.{header_fits, length_fits, entry_fits}
 
 pub record HeaderRanges (h : Header) : Type 0 where
   pub some : 1 ≤ h.size

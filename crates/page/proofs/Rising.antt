@@ -1,10 +1,10 @@
 -- Bits that rise take zeros away, and a list with as many zeros as before is as it was.
-use Rattle.std.proofs.Common.{◌≡◌, ℕ, zero, suc, ◌+◌, ◌-◌, ◌*◌, ◌/◌, ◌%◌, ◌^◌, ◌<◌, ◌≤◌, min, List, [], ◌∷◌, length, get_or, drop, sum_by, sym, refl, ap, ◌∙◌, ap₂, arith}
+use Rattle.std.proofs.Common.{◌≡◌, ℕ, zero, suc, ◌+◌, ◌-◌, ◌*◌, ◌/◌, ◌%◌, ◌^◌, ◌<◌, ◌≤◌, min, List, [], ◌∷◌, sum_by, sym, refl, ap, ◌∙◌, ap₂, arith}
 use lib.Bits.{bit_and, and_step, and_le_r}
-use lib.Count.{ones, ones_step, ones-le, ones-ones}
+use lib.Count.{ones, ones_step, ones-ones}
 use Rattle.std.proofs.lemmas.List.Sums.{sum_by-cons}
 use Rattle.std.proofs.lemmas.Bool.{eqb-true}
-use Rattle.page.specs.Code.{zeros_of, zero_count, stored_count, is_data, Rose, Raised, Settled, RisingSpoils}
+use Rattle.page.specs.Code.{zeros_of, zero_count, stored_count, is_data, Rose, Raised, RisingSpoils}
 
 -- b has as many ones as a or more, and a alone has exactly as many
 record More (a b : ℕ) : Type 0 where

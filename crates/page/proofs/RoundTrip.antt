@@ -1,5 +1,5 @@
 -- A page that fits is read back from the bytes that it is encoded in.
-use Rattle.std.proofs.Common.{◌≡◌, ℕ, ◌+◌, ◌-◌, ◌*◌, ◌/◌, ◌%◌, ◌^◌, ◌<◌, ◌≤◌, Bool, true, cond, List, [], ◌∷◌, ◌++◌, length, get_or, take, drop, replicate, Some, Ok, Err, sum_by, Option, sym, refl, ap, ◌∙◌, ap₂, arith, length-append}
+use Rattle.std.proofs.Common.{◌≡◌, ℕ, ◌+◌, ◌-◌, ◌*◌, ◌/◌, ◌%◌, ◌<◌, ◌≤◌, true, List, [], ◌∷◌, length, replicate, Some, Ok, Err, sum_by, Option, refl, ap, ◌∙◌, ap₂, arith, length-append}
 use lib.Count.{ones-le}
 use lib.ListN.{length-replicate}
 use Rattle.std.proofs.lemmas.List.Sums.{sum_by-cons}
@@ -11,14 +11,14 @@ use Rattle.page.specs.declared.fields.Content.TheVariants as content
 use Rattle.page.specs.declared.fields.Page.{Page}
 use Rattle.page.specs.declared.fields.PageFault.TheVariants.{NotData, OutOfRange}
 use Rattle.page.specs.Bits.{field}
-use Rattle.page.specs.Code.{zeros_of, zero_count, stored_count, is_data}
-use Rattle.page.specs.Decoded.{decoded, assembled, checked}
-use Rattle.page.specs.Encoded.{lead, be16, be32, header_bytes, content_bytes, kind_number, written, body, encoded}
+use Rattle.page.specs.Code.{zeros_of, is_data}
+use Rattle.page.specs.Decoded.{decoded, assembled}
+use Rattle.page.specs.Encoded.{header_bytes, content_bytes, kind_number, written, body, encoded}
 use Rattle.page.specs.Pasted.{Sized}
-use Rattle.page.specs.Fields.{header_at, content_at, content_of_kind, entry_at, chunk_at}
+use Rattle.page.specs.Fields.{header_at, content_at, content_of_kind}
 use Rattle.page.specs.Fits.{fits, header_fits, file_fits, content_fits, entry_fits}
 use Rattle.page.specs.Names.{name_text}
-use Rattle.page.proofs.Ranges.{HeaderRanges, header_ranges, entry_ranges}
+use Rattle.page.proofs.Ranges.{header_ranges, entry_ranges}
 use Rattle.page.proofs.Reading.{kind_read, header_read, entry_read, chunk_read, name_long}
 
 -- no byte has more than eight zeros

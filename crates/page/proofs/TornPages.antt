@@ -1,17 +1,17 @@
 -- A mixture of old and final bits, where the old or the final ones are all 1, is a page whose bits rose.
-use Rattle.std.proofs.Common.{◌≡◌, ℕ, zero, suc, ◌+◌, ◌-◌, ◌*◌, ◌/◌, ◌%◌, ◌^◌, ◌<◌, ◌≤◌, min, true, ◌≢◌, ◌⊎◌, List, [], ◌∷◌, length, get_or, replicate, sym, refl, ap, ◌∙◌, subst, inl, inr, mul-le-mul_left, mul-add, arith}
-use native.Mathlib.Decide.{dec_lt, dec_le, ℕ_discrete}
+use Rattle.std.proofs.Common.{◌≡◌, ℕ, zero, suc, ◌+◌, ◌-◌, ◌*◌, ◌/◌, ◌%◌, ◌^◌, ◌<◌, ◌≤◌, true, ◌⊎◌, List, [], ◌∷◌, length, get_or, sym, refl, ap, ◌∙◌, subst, inl, inr, arith}
+use native.Mathlib.Decide.{dec_lt}
 use lib.Bits.{bit_and, bit_xor, differ, and_step, xor_step, and_self, and_comm, and_zero_l}
 use Rattle.std.proofs.lemmas.Nat.{and_mask, pow_pos}
-use Rattle.std.proofs.lemmas.List.{ext_get_or, get_or_past, get_or-replicate, length-replicate}
+use Rattle.std.proofs.lemmas.List.{ext_get_or, get_or-replicate, length-replicate}
 use Rattle.flash.specs.Chip.{Chip, Formed, InBlock, Mixed, Torn, blank, page, cleared, programmed, erased}
 use Rattle.flash.proofs.Chips.{programmed_here, programmed_else}
 use Rattle.flash.proofs.Clearing.{cleared_at}
 use Rattle.flash.proofs.Erasing.{erased_below, erased_inside, erased_above}
 use Rattle.flash.proofs.Sides.{block_within}
 use Rattle.flash.specs.Joins.{shaped}
-use Rattle.page.specs.Code.{is_data, Rose, Raised, Settled}
-use Rattle.page.specs.Tearing.{TornProgram, TornErase, TornProgramAddsNone, TornEraseAddsNone}
+use Rattle.page.specs.Code.{is_data, Raised, Settled}
+use Rattle.page.specs.Tearing.{TornProgramAddsNone, TornEraseAddsNone}
 use Rattle.page.proofs.Rising.{rising_spoils}
 
 -- bits of 0 and 1 that differ

@@ -1,5 +1,5 @@
 -- The bits of an encoded page that belong to no field are ones.
-use Rattle.std.proofs.Common.{◌≡◌, ℕ, zero, suc, ◌+◌, ◌-◌, ◌*◌, ◌/◌, ◌%◌, ◌^◌, ◌<◌, ◌≤◌, Bool, true, false, ◌&&◌, ◌||◌, ltb, leb, ◌⊎◌, List, [], ◌∷◌, ◌++◌, length, get_or, replicate, sum_by, sym, refl, ap, ◌∙◌, ap₂, inl, inr, arith}
+use Rattle.std.proofs.Common.{◌≡◌, ℕ, zero, suc, ◌+◌, ◌-◌, ◌*◌, ◌/◌, ◌%◌, ◌^◌, ◌<◌, ◌≤◌, true, false, ◌⊎◌, ◌++◌, length, get_or, replicate, sum_by, refl, ap, ◌∙◌, inl, inr, arith}
 use Rattle.std.proofs.lemmas.List.{get_or-append_right, get_or-replicate}
 use Rattle.std.proofs.lemmas.Bool.{and_parts, and_cases, or_parts, cases_lt, leb-false, ltb-false}
 use Rattle.page.specs.declared.fields.Header.{Header}
@@ -10,13 +10,13 @@ use Rattle.page.specs.declared.fields.Content.TheVariants as content
 use Rattle.page.specs.declared.fields.Page.{Page}
 use Rattle.page.specs.Bits.{bit}
 use Rattle.page.specs.Code.{zeros_of}
-use Rattle.page.specs.Encoded.{be16, lead, packed, written, body, encoded, directory_bit}
+use Rattle.page.specs.Encoded.{be16, packed, written, body, encoded, directory_bit}
 use Rattle.page.specs.Pasted.{Sized}
 use Rattle.page.specs.Fits.{fits, file_fits, content_fits, entry_fits}
 use Rattle.page.specs.Holds.{within, own_bits, listed}
 use Rattle.page.specs.Names.{name_text}
 use Rattle.page.proofs.BitLaws.{bit_in}
-use Rattle.page.proofs.Packing.{Unpacked, unpacked}
+use Rattle.page.proofs.Packing.{unpacked}
 use Rattle.page.proofs.Ranges.{entry_ranges, directory_bit_range}
 use Rattle.page.proofs.Reading.{name_long}
 

@@ -1,11 +1,9 @@
 -- The bytes of a page that holds given fields.
 use Rattle.std.specs.Prelude.{ℕ, ◌+◌, ◌-◌, ◌*◌, ◌/◌, ◌%◌, ◌^◌, List, [], ◌∷◌, ◌++◌, length, replicate, sum_by}
-use Rattle.page.specs.declared.names.Name.{Name}
 use Rattle.page.specs.declared.fields.Header.{Header}
 use Rattle.page.specs.declared.fields.EntryKind.{EntryKind}
 use Rattle.page.specs.declared.fields.EntryKind.TheVariants.{File, Directory}
 use Rattle.page.specs.declared.fields.Entry.{Entry}
-use Rattle.page.specs.declared.fields.Chunk.{Chunk}
 use Rattle.page.specs.declared.fields.Content.{Content}
 use Rattle.page.specs.declared.fields.Content.TheVariants.{Note, Gone}
 use Rattle.page.specs.declared.fields.Content.TheVariants as content

@@ -1,7 +1,7 @@
 -- A batch into the room made for it leaves sound tables and a free block.
-use Rattle.std.proofs.Common.{◌≡◌, ℕ, zero, suc, ◌+◌, ◌-◌, ◌*◌, ◌<◌, ◌≤◌, ◌⊎◌, sym, refl, ap, ◌∙◌, inl, inr, arith}
+use Rattle.std.proofs.Common.{◌≡◌, ℕ, zero, suc, ◌+◌, ◌<◌, ◌≤◌, ◌⊎◌, sym, refl, ap, ◌∙◌, inl, inr, arith}
 use native.Mathlib.Decide.{ℕ_discrete, dec_le}
-use Rattle.planner.specs.State.{State, Sound, Free, Lowest}
+use Rattle.planner.specs.State.{State, Sound, Free}
 use Rattle.planner.specs.Moves.{Same}
 use Rattle.planner.specs.Room.{Room}
 use Rattle.planner.specs.Batches.{New, BatchFloor, Batched, BatchKeeps}

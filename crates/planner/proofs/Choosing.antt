@@ -1,8 +1,7 @@
 -- The step that comes next while room is made.
-use Rattle.std.proofs.Common.{◌≡◌, ℕ, ◌+◌, ◌^◌, ◌<◌, ◌≤◌, ◌⊎◌, sym, refl, ◌∙◌, subst, inl, inr, arith}
-use Rattle.planner.specs.State.{State, Sound, Free, Lowest}
+use Rattle.std.proofs.Common.{◌≡◌, ℕ, ◌+◌, ◌^◌, ◌<◌, ◌≤◌, ◌⊎◌, refl, inl, inr, arith}
+use Rattle.planner.specs.State.{Free, Lowest}
 use Rattle.planner.specs.Room.{Room}
-use Rattle.planner.specs.Shape.{Keeps, spent_above}
 use Rattle.planner.specs.Steps.{state, Next, Turn}
 use Rattle.planner.specs.declared.steps.Step.{Step}
 use Rattle.planner.specs.declared.steps.Step.TheVariants.{Ready, Open, Copy, Spent}

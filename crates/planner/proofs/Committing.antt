@@ -1,12 +1,11 @@
 -- The slots after a batch, as the state sees them.
-use Rattle.std.proofs.Common.{◌≡◌, ℕ, ◌+◌, ◌<◌, ◌≤◌, ◌⊎◌, List, length, get_or, take, set, Some, None, Option, sym, refl, ap, ◌∙◌, inl, inr, arith}
+use Rattle.std.proofs.Common.{◌≡◌, ℕ, ◌+◌, ◌<◌, ◌≤◌, ◌⊎◌, List, length, get_or, set, Some, Option, sym, refl, ap, ◌∙◌, inl, inr, arith}
 use Rattle.std.proofs.lemmas.List.{get_or-set_same, get_or-set_other}
 use Rattle.object.specs.declared.key.Key.{Key}
 use Rattle.planner.specs.State.{State, Sound, limit}
-use Rattle.planner.specs.Moves.{Same}
-use Rattle.planner.specs.Batches.{New, Batched}
+use Rattle.planner.specs.Batches.{Batched}
 use Rattle.planner.specs.Shape.{shape, blank, head_of, used_of}
-use Rattle.planner.specs.Slots.{listed, Holds}
+use Rattle.planner.specs.Slots.{listed}
 use Rattle.planner.specs.Written.{ByPage, Written}
 use Rattle.planner.specs.declared.head.Head.{Head}
 use Rattle.planner.specs.declared.says.Says.{Says}

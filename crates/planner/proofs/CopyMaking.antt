@@ -1,13 +1,13 @@
 -- The key with the lowest number is copied to the head while room is made.
-use Rattle.std.proofs.Common.{◌≡◌, ℕ, zero, suc, ◌+◌, ◌*◌, ◌<◌, ◌≤◌, Bool, true, false, cond, eqb, ltb, leb, ◌⊎◌, sym, refl, ap, ◌∙◌, subst, inl, inr, arith}
+use Rattle.std.proofs.Common.{◌≡◌, ℕ, suc, ◌+◌, ◌*◌, ◌<◌, ◌≤◌, cond, eqb, ltb, leb, sym, refl, ap, ◌∙◌, inl, inr, arith}
 use native.Mathlib.Decide.{ℕ_discrete, dec_le, dec_lt}
 use Rattle.std.proofs.lemmas.Bool.Decides.{nat_tests}
-use Rattle.std.proofs.lemmas.Bool.{eqb-true, eq-eqb, ne_eqb, le-leb, lt-leb}
+use Rattle.std.proofs.lemmas.Bool.{eq-eqb, ne_eqb, le-leb, lt-leb}
 use Rattle.planner.specs.Tally.{tally}
-use Rattle.planner.specs.State.{State, Sound, Free, Lowest, in_block, old, limit}
+use Rattle.planner.specs.State.{State, Sound, Free, Lowest, in_block, old}
 use Rattle.planner.specs.Moves.{Same, Copied, Carries, Stays, Rises}
 use Rattle.planner.specs.Making.{Scratch, Spare, Making}
-use Rattle.planner.proofs.Tally.{tally_le, tally_same, tally_none, tally_move, tally_some, crowd}
+use Rattle.planner.proofs.Tally.{tally_le, tally_same, tally_move, tally_some, crowd}
 use Rattle.planner.proofs.Limits.{limit_more}
 use Rattle.planner.proofs.Copying.{known, floor_up, copy_sound}
 

@@ -1,8 +1,8 @@
 -- A copy to the head keeps the tables sound.
-use Rattle.std.proofs.Common.{◌≡◌, ℕ, ◌+◌, ◌-◌, ◌*◌, ◌<◌, ◌≤◌, ◌⊎◌, sym, refl, ap, ◌∙◌, subst, inl, inr, arith}
+use Rattle.std.proofs.Common.{◌≡◌, ℕ, ◌+◌, ◌<◌, ◌≤◌, sym, ap, ◌∙◌, subst, inl, inr, arith}
 use native.Mathlib.Decide.{ℕ_discrete}
-use Rattle.planner.specs.State.{State, Sound, Free, Lowest}
-use Rattle.planner.specs.Moves.{Copied, Carries, Stays, Rises}
+use Rattle.planner.specs.State.{State, Sound, Lowest}
+use Rattle.planner.specs.Moves.{Copied, Carries}
 use Rattle.planner.proofs.Limits.{limit_same}
 
 -- each key's number is at most the last one

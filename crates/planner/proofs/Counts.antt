@@ -1,14 +1,13 @@
 -- However the pages of a batch are placed, they leave the same number of keys.
-use Rattle.std.proofs.Common.{◌≡◌, ℕ, zero, suc, ◌+◌, ◌*◌, ◌<◌, ◌≤◌, Bool, true, false, ◌⊎◌, List, length, get_or, sym, refl, ap, ◌∙◌, subst, inl, inr, arith}
-use native.Mathlib.Decide.{dec_lt, ℕ_discrete}
+use Rattle.std.proofs.Common.{◌≡◌, ℕ, zero, suc, ◌+◌, ◌*◌, ◌<◌, ◌≤◌, true, List, length, get_or, sym, refl, ap, ◌∙◌, subst, inl, inr, arith}
+use native.Mathlib.Decide.{dec_lt}
 use Rattle.std.proofs.lemmas.List.{get_or_default}
-use Rattle.object.specs.declared.key.Key.{Key}
 use Rattle.planner.specs.Tally.{tally}
 use Rattle.planner.specs.Full.{Alike}
 use Rattle.planner.specs.Order.{ranked, Rising}
 use Rattle.planner.specs.Shape.{blank}
 use Rattle.planner.specs.Slots.{Holds}
-use Rattle.planner.specs.Written.{Speaks, ByPage, slot_at, Written}
+use Rattle.planner.specs.Written.{Speaks, slot_at, Written}
 use Rattle.planner.specs.declared.says.Says.{Says}
 use Rattle.planner.specs.declared.slot.Slot.{Slot}
 use Rattle.planner.proofs.Tally.{tally_marks}

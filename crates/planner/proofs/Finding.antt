@@ -1,11 +1,11 @@
 -- A free block is found by looking, so that knowing of one is having one.
-use Rattle.std.proofs.Common.{◌≡◌, ℕ, zero, suc, ◌<◌, ◌≤◌, ◌⊎◌, sym, subst, inl, inr, arith}
+use Rattle.std.proofs.Common.{◌≡◌, ℕ, zero, suc, ◌<◌, ◌⊎◌, sym, subst, inl, inr, arith}
 use mathlib.Core.Logic.{∥∥₁_elim}
 use native.Mathlib.Decide.{ℕ_discrete, dec_lt}
 use Rattle.planner.specs.State.{State, Free}
 use Rattle.planner.specs.Shape.{Keeps}
 use Rattle.planner.specs.declared.head.Phase.{Phase}
-use Rattle.planner.specs.declared.head.Phase.TheVariants.{AtRest, MakingRoom}
+use Rattle.planner.specs.declared.head.Phase.TheVariants.{AtRest}
 
 is_free : (s : State) (b : ℕ) → Free s b ⊎ (Free s b → ⊥)
 is_free s b =

@@ -1,8 +1,8 @@
 -- The slots of other files, moved to the front one by one.
-use Rattle.std.proofs.Common.{◌≡◌, ℕ, ◌+◌, ◌<◌, ◌≤◌, ◌⊎◌, List, length, get_or, take, set, sym, refl, ap, ◌∙◌, inl, inr, arith, length-set}
+use Rattle.std.proofs.Common.{◌≡◌, ℕ, ◌+◌, ◌<◌, ◌≤◌, List, length, get_or, take, set, sym, refl, ap, ◌∙◌, arith, length-set}
 use native.Mathlib.Decide.{ℕ_discrete}
 use Rattle.std.proofs.lemmas.List.{get_or-set_same, get_or-set_other, get_or_default, length-take-le}
-use Rattle.planner.specs.Order.{ranked, Rising, Narrow}
+use Rattle.planner.specs.Order.{ranked, Narrow}
 use Rattle.planner.specs.Slots.{Forgets}
 use Rattle.planner.specs.declared.slot.Slot.{Slot}
 use Rattle.planner.proofs.Limits.{below_one}

@@ -1,5 +1,5 @@
 -- The tables after a format are sound, and the second block is free.
-use Rattle.std.proofs.Common.{◌≡◌, ℕ, zero, suc, ◌+◌, ◌*◌, ◌<◌, ◌≤◌, List, [], ◌∷◌, length, get_or, replicate, Some, refl, arith}
+use Rattle.std.proofs.Common.{◌≡◌, ℕ, zero, suc, ◌≤◌, ◌∷◌, get_or, replicate, Some, refl, arith}
 use Rattle.planner.specs.State.{State, Sound, Free}
 use Rattle.planner.specs.Formats.{Sizes}
 use Rattle.planner.specs.Shape.{shape}

@@ -1,6 +1,6 @@
 -- What is judged of a scan is what makes its tables sound.
-use Rattle.std.proofs.Common.{◌≡◌, ℕ, ◌+◌, ◌<◌, ◌≤◌, refl, arith}
-use Rattle.planner.specs.State.{State, Sound}
+use Rattle.std.proofs.Common.{ℕ, ◌<◌, ◌≤◌, refl, arith}
+use Rattle.planner.specs.State.{Sound}
 use Rattle.planner.specs.Mountable.{found, Sized, Placed, Agree}
 use Rattle.planner.proofs.Limits.{limit_most}
 use Rattle.planner.specs.declared.scanned.Scanned.{Scanned}

@@ -1,8 +1,7 @@
 -- Mounting again finds sound tables.
-use Rattle.std.proofs.Common.{◌≡◌, ℕ, ◌+◌, ◌-◌, ◌*◌, ◌<◌, ◌≤◌, sym, refl, ap, ◌∙◌, arith}
+use Rattle.std.proofs.Common.{◌≡◌, ℕ, ◌<◌, sym, ap, ◌∙◌, arith}
 use native.Mathlib.Decide.{dec_lt}
 use Rattle.planner.specs.State.{State, Sound, Free}
-use Rattle.planner.specs.Making.{Scratch}
 use Rattle.planner.specs.Mounts.{Mounted, MountKeeps, MountPast}
 use Rattle.planner.proofs.Limits.{limit_same}
 

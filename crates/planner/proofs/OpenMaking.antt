@@ -1,11 +1,11 @@
 -- A block is opened while room is made.
-use Rattle.std.proofs.Common.{◌≡◌, ℕ, zero, suc, ◌+◌, ◌*◌, ◌<◌, ◌≤◌, Bool, true, false, eqb, leb, ◌⊎◌, sym, refl, ap, ◌∙◌, subst, inl, inr, arith}
+use Rattle.std.proofs.Common.{◌≡◌, ℕ, ◌<◌, ◌≤◌, Bool, eqb, leb, sym, refl, ap, ◌∙◌, inr, arith}
 use native.Mathlib.Decide.{ℕ_discrete}
 use Rattle.std.proofs.lemmas.Bool.{eqb-true, ne_eqb}
 use Rattle.planner.specs.Tally.{tally}
-use Rattle.planner.specs.State.{State, Sound, Free, Lowest, in_block, old}
+use Rattle.planner.specs.State.{State, Sound, Free, in_block, old}
 use Rattle.planner.specs.Moves.{Same, Opened}
-use Rattle.planner.specs.Making.{Scratch, Spare, Making}
+use Rattle.planner.specs.Making.{Scratch, Making}
 use Rattle.planner.proofs.Tally.{tally_le, tally_same, tally_none, tally_marks}
 use Rattle.planner.proofs.Opening.{free_empty, open_high, open_sound}
 

@@ -1,12 +1,12 @@
 -- The phase after a block is opened or a key is copied: what it keeps, and that the end comes nearer.
-use Rattle.std.proofs.Common.{◌≡◌, ℕ, zero, suc, ◌+◌, ◌*◌, ◌<◌, ◌≤◌, cond, ltb, leb, ◌⊎◌, sym, refl, ap, ◌∙◌, subst, inl, inr, arith}
+use Rattle.std.proofs.Common.{◌≡◌, ℕ, suc, ◌+◌, ◌<◌, ◌≤◌, leb, ◌⊎◌, sym, ap, ◌∙◌, subst, inl, inr, arith}
 use mathlib.Core.Logic.{∥∥₁_elim, ∥∥₁_map}
 use native.Mathlib.Bridge.{le_prop}
 use Rattle.std.proofs.lemmas.Bool.Decides.{nat_tests}
-use Rattle.planner.specs.State.{State, Sound, Free, Lowest, old}
-use Rattle.planner.specs.Moves.{Opened, Copied, Carries, Rises}
+use Rattle.planner.specs.State.{State, Sound, Free, old}
+use Rattle.planner.specs.Moves.{Opened, Copied, Rises}
 use Rattle.planner.specs.Making.{Spare, Making}
-use Rattle.planner.specs.Shape.{Keeps, spent_above}
+use Rattle.planner.specs.Shape.{Keeps}
 use Rattle.planner.specs.Steps.{Another, MayOpen, Copying, MayCopy, PhaseAfter, ahead, work}
 use Rattle.planner.specs.declared.head.Phase.{Phase}
 use Rattle.planner.specs.declared.head.Phase.TheVariants.{AtRest, MakingRoom}

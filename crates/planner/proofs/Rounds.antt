@@ -1,11 +1,11 @@
 -- The loop that makes room.
-use Rattle.std.proofs.Common.{◌≡◌, ℕ, ◌+◌, ◌<◌, ◌≤◌, cond, ltb, leb, get_or, sym, refl, ap, ◌∙◌, subst, arith}
+use Rattle.std.proofs.Common.{◌≡◌, ℕ, ◌+◌, ◌<◌, ◌≤◌, leb, refl, ap, ◌∙◌, arith}
 use Rattle.std.proofs.lemmas.Bool.Decides.{nat_tests}
-use Rattle.planner.specs.State.{State, old}
-use Rattle.planner.specs.Moves.{Opened, Copied}
+use Rattle.planner.specs.State.{State}
+use Rattle.planner.specs.Moves.{Opened}
 use Rattle.planner.specs.Room.{Room}
 use Rattle.planner.specs.Makes.{Made}
-use Rattle.planner.specs.Shape.{blank, spent_above}
+use Rattle.planner.specs.Shape.{spent_above}
 use Rattle.planner.specs.Steps.{state, ahead, SameKeys, Advances, UsedUp}
 use Rattle.planner.specs.declared.head.Phase.{Phase}
 use Rattle.planner.specs.declared.head.Phase.TheVariants.{AtRest, MakingRoom}

@@ -1,5 +1,5 @@
 -- What the ghost fields of the tables give.
-use Rattle.std.proofs.Common.{◌≡◌, ℕ, ◌+◌, ◌<◌, ◌≤◌, eqb, leb, subst, arith}
+use Rattle.std.proofs.Common.{◌≡◌, ℕ, ◌+◌, ◌<◌, ◌≤◌, eqb, subst, arith}
 use mathlib.Core.Logic.{∥∥₁_elim}
 use native.Mathlib.Bridge.{le_prop}
 use native.Mathlib.Nat.{ℕ_set}
@@ -9,7 +9,7 @@ use Rattle.planner.specs.Making.{Making}
 use Rattle.planner.specs.Shape.{Keeps, spent_above}
 use Rattle.planner.specs.Steps.{state}
 use Rattle.planner.specs.declared.head.Phase.{Phase}
-use Rattle.planner.specs.declared.head.Phase.TheVariants.{AtRest, MakingRoom}
+use Rattle.planner.specs.declared.head.Phase.TheVariants.{MakingRoom}
 use Rattle.planner.specs.declared.tables.Tables.{Tables}
 use Rattle.planner.proofs.CopyMaking.{space}
 use Rattle.planner.proofs.Tally.{tally_le}

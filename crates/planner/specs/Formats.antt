@@ -1,5 +1,5 @@
 -- The tables after a format.
-use Rattle.std.specs.Prelude.{◌≡◌, ℕ, ◌≤◌, List, [], ◌∷◌, replicate, Some, None, Option}
+use Rattle.std.specs.Prelude.{◌≡◌, ℕ, ◌≤◌, [], ◌∷◌, replicate, Some, None, Option}
 use Rattle.planner.specs.Slots.{listed}
 use Rattle.planner.specs.declared.head.Phase.TheVariants.{AtRest}
 use Rattle.planner.specs.declared.tables.Tables.{Tables}

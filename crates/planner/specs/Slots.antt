@@ -1,6 +1,5 @@
 -- What the slots hold, and how a key is told or forgotten.
 use Rattle.std.specs.Prelude.{◌≡◌, ℕ, ◌+◌, ◌<◌, ◌≤◌, Bool, true, false, ◌⊎◌, List, length, take, ◌≢◌, slice_index_or}
-use Rattle.object.specs.declared.key.Key.{Key}
 use Rattle.planner.specs.Order.{Rising}
 use Rattle.planner.specs.declared.slot.Slot.{Slot}
 use Rattle.planner.specs.declared.slots.Slots.{Slots}

@@ -1,5 +1,5 @@
 -- From the tables of a scan to what it answers.
-use Rattle.std.proofs.Common.{◌≡◌, ℕ, ◌+◌, ◌-◌, ◌*◌, ◌/◌, ◌<◌, ◌≤◌, true, List, length, get_or, take, Ok, Err, Result, sym, refl, ap, ◌∙◌, subst, mul_comm, arith}
+use Rattle.std.proofs.Common.{◌≡◌, ℕ, ◌-◌, ◌*◌, ◌/◌, ◌<◌, ◌≤◌, true, List, length, get_or, take, Ok, Err, Result, sym, refl, ap, subst, mul_comm, arith}
 use Rattle.std.proofs.lemmas.Nat.{div_below}
 use Rattle.std.proofs.lemmas.List.{length-take-le}
 use Rattle.flash.specs.Chip.{Chip, Formed, page}
@@ -16,9 +16,9 @@ use Rattle.replay.specs.declared.fault.ReplayFault.TheVariants.{WorkPage, Buffer
 use Rattle.replay.specs.declared.slot.Slot.{Slot}
 use Rattle.replay.specs.declared.tables.Scan.{Scan}
 use Rattle.replay.specs.Laws.{DataAt}
-use Rattle.replay.specs.Damage.{NoTree, Senseless, no_tree, overrun, many_keys, key_limit, Damage, senseless, FewBlocks, ScansSeen, Scans}
+use Rattle.replay.specs.Damage.{NoTree, Senseless, overrun, many_keys, key_limit, Damage, senseless, FewBlocks, ScansSeen, Scans}
 use Rattle.replay.specs.Entries.{TreeShown}
-use Rattle.replay.specs.Log.{Log, LogOf, Logged, number_of, floor_of, Counts, Top}
+use Rattle.replay.specs.Log.{LogOf, Logged, number_of, floor_of, Counts, Top}
 use Rattle.replay.specs.Overrun.{Overrun, OverrunIn}
 use Rattle.replay.specs.Remembers.{Remembers}
 use Rattle.replay.specs.Seen.{seen_number}
@@ -26,7 +26,7 @@ use Rattle.replay.specs.Telling.{AnyKey, KeysTold}
 use Rattle.replay.proofs.Nothing.{nothing}
 use Rattle.replay.proofs.Overrunning.{overrun_to, overrun_from}
 use Rattle.replay.proofs.Sensible.{last_top, no_damage}
-use Rattle.replay.proofs.Tied.{Is, page_at, remembered_distinct}
+use Rattle.replay.proofs.Tied.{page_at, remembered_distinct}
 
 -- the last remembered page is the top page, with its floor and number
 pub record Last (c : Chip) (xs : List Seen) : Type 0 where

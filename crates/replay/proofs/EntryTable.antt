@@ -1,5 +1,5 @@
 -- Entries read from the places of slots, one slot further, and what they are of what is shown.
-use Rattle.std.proofs.Common.{◌≡◌, ℕ, ◌+◌, ◌<◌, ◌≤◌, ◌⊎◌, List, length, get_or, Some, Ok, Option, Result, sym, refl, ap, ◌∙◌, subst, inl, inr, arith}
+use Rattle.std.proofs.Common.{◌≡◌, ℕ, ◌+◌, ◌<◌, ◌≤◌, List, length, get_or, Some, Ok, Result, sym, ap, ◌∙◌, subst, arith}
 use native.Mathlib.Decide.{dec_lt}
 use Rattle.std.specs.List.{insert}
 use Rattle.std.proofs.lemmas.List.{get_or_default}
@@ -7,14 +7,13 @@ use Rattle.flash.specs.Chip.{Chip, page}
 use Rattle.lookup.specs.declared.sorted.Placed.{Placed}
 use Rattle.lookup.specs.declared.sorted.Placed.TheVariants.{Put, Taken, Full}
 use Rattle.lookup.proofs.Insertion.{At, before, itself, later, which, stays, stands, long}
-use Rattle.page.specs.declared.fields.Content.{Content}
 use Rattle.page.specs.declared.fields.Content.TheVariants as content
 use Rattle.page.specs.declared.fields.Entry.{Entry}
 use Rattle.page.specs.declared.fields.Page.{Page}
 use Rattle.page.specs.declared.fields.PageFault.{PageFault}
 use Rattle.page.specs.Decoded.{decoded}
 use Rattle.tree.specs.declared.node.Node.{Node}
-use Rattle.tree.specs.Table.{Adds, file_of}
+use Rattle.tree.specs.Table.{Adds}
 use Rattle.tree.specs.Tree.{Among}
 use Rattle.replay.specs.declared.slot.Slot.{Slot}
 use Rattle.replay.specs.Entries.{entry_of, entry_read, EntryPage, EntriesAt, RisingFiles}

@@ -4,7 +4,6 @@ use Rattle.std.proofs.lemmas.Bool.{and_parts, leb-true, eqb-true}
 use Rattle.flash.specs.Chip.{Chip}
 use Rattle.object.specs.declared.value.Object.TheVariants as object
 use Rattle.page.specs.declared.fields.Content.{Content}
-use Rattle.page.specs.declared.fields.Content.TheVariants as content
 use Rattle.page.specs.declared.fields.Entry.{Entry}
 use Rattle.page.specs.declared.fields.EntryKind.{EntryKind}
 use Rattle.page.specs.declared.fields.EntryKind.TheVariants.{File, Directory}

@@ -1,14 +1,13 @@
 -- A slot with a chunk past its file's end, and a chip with one.
-use Rattle.std.proofs.Common.{◌≡◌, ℕ, ◌+◌, ◌-◌, ◌*◌, ◌<◌, ◌≤◌, List, length, get_or, sym, refl, ap, ◌∙◌, subst, arith}
+use Rattle.std.proofs.Common.{◌≡◌, ℕ, ◌+◌, ◌-◌, ◌*◌, ◌≤◌, List, sym, ap, subst, arith}
 use Rattle.flash.specs.Chip.{Chip}
 use Rattle.object.specs.declared.key.Key.{Key}
 use Rattle.object.specs.declared.value.Object.TheVariants as object
-use Rattle.page.specs.declared.fields.Entry.{Entry}
 use Rattle.tree.specs.declared.node.Node.{Node}
 use Rattle.tree.specs.Tree.{Among}
 use Rattle.replay.specs.declared.slot.Slot.{Slot}
 use Rattle.replay.specs.Entries.{TreeShown}
-use Rattle.replay.specs.Log.{LogOf, Logged, chunk_key, entry_key, Counts, Shown, Distinct}
+use Rattle.replay.specs.Log.{LogOf, chunk_key, entry_key, Counts, Shown, Distinct}
 use Rattle.replay.specs.Overrun.{Overrun, Overruns, OverrunIn}
 use Rattle.replay.specs.Slots.{slot_at}
 use Rattle.replay.specs.Telling.{Telling, AnyKey, KeysTold}

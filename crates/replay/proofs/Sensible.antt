@@ -1,5 +1,5 @@
 -- What is shown makes sense, or it does not: from the tables to the chip.
-use Rattle.std.proofs.Common.{◌≡◌, ℕ, ◌+◌, ◌<◌, ◌≤◌, true, ltb, List, length, get_or, Some, None, Option, sym, refl, ap, ◌∙◌, subst, arith}
+use Rattle.std.proofs.Common.{◌≡◌, ℕ, ◌+◌, ◌<◌, ◌≤◌, true, ltb, List, length, get_or, Some, None, sym, ap, ◌∙◌, subst, arith}
 use native.Mathlib.Decide.{dec_lt}
 use Rattle.std.proofs.lemmas.Bool.{and_parts, ltb-true}
 use Rattle.flash.specs.Chip.{Chip}
@@ -9,7 +9,6 @@ use Rattle.page.specs.declared.fields.Content.TheVariants.{Note, Gone}
 use Rattle.page.specs.declared.fields.Content.TheVariants as content
 use Rattle.page.specs.declared.fields.Entry.{Entry}
 use Rattle.page.specs.declared.fields.Header.{Header}
-use Rattle.page.specs.declared.fields.Page.{Page}
 use Rattle.page.specs.Fits.{fits, header_fits, file_fits, content_fits}
 use Rattle.page.proofs.Decodes.{decoded_ok}
 use Rattle.page.proofs.Ranges.{header_ranges}

@@ -1,6 +1,6 @@
 -- What the remembered pages show is what the log of the chip shows.
-use Rattle.std.proofs.Common.{◌≡◌, ℕ, ◌+◌, ◌<◌, ◌≤◌, Bool, true, false, ◌⊎◌, List, length, get_or, Ok, Result, sym, refl, ap, ◌∙◌, subst, inl, inr, arith}
-use native.Mathlib.Decide.{dec_lt, ℕ_discrete}
+use Rattle.std.proofs.Common.{◌≡◌, ℕ, ◌<◌, ◌≤◌, Bool, List, length, get_or, Ok, Result, sym, refl, ap, ◌∙◌, subst, arith}
+use native.Mathlib.Decide.{dec_lt}
 use Rattle.std.proofs.lemmas.List.{get_or_default}
 use Rattle.flash.specs.Chip.{Chip, page}
 use Rattle.object.specs.declared.key.Key.{Key}
@@ -14,11 +14,11 @@ use Rattle.page.specs.declared.fields.Page.{Page}
 use Rattle.page.specs.declared.fields.PageFault.{PageFault}
 use Rattle.page.specs.Decoded.{decoded}
 use Rattle.replay.specs.declared.seen.Says.{Says}
-use Rattle.replay.specs.declared.seen.Says.TheVariants.{Nothing, Sets, Removes}
+use Rattle.replay.specs.declared.seen.Says.TheVariants.{Sets}
 use Rattle.replay.specs.declared.seen.Seen.{Seen}
-use Rattle.replay.specs.Log.{Log, LogOf, Logged, number_of, index_of, size_of, entry_key, Part, Complete, Counts, SpeaksBy, GivesBy, Speaks, Gives, Shown, Distinct}
+use Rattle.replay.specs.Log.{LogOf, Logged, number_of, Complete, Counts, SpeaksBy, GivesBy, Speaks, Gives, Shown, Distinct}
 use Rattle.replay.specs.Changes.{On}
-use Rattle.replay.specs.Marks.{Marks, PartAt, GroupedIn, seen_index, seen_size}
+use Rattle.replay.specs.Marks.{Marks, GroupedIn, seen_index, seen_size}
 use Rattle.replay.specs.Remembers.{Remembers}
 use Rattle.replay.specs.Seen.{says_by, seen_of, seen_number}
 use Rattle.replay.specs.Shows.{SaidTo, Counted_at, ShowsAt}

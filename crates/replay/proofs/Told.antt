@@ -1,5 +1,5 @@
 -- The slots collected from the remembered pages are the keys told.
-use Rattle.std.proofs.Common.{◌≡◌, ℕ, ◌<◌, ◌≤◌, Bool, List, length, get_or, sym, refl, ap, ◌∙◌, subst, arith}
+use Rattle.std.proofs.Common.{◌≡◌, ℕ, ◌<◌, Bool, List, length, get_or, sym, refl, ap, ◌∙◌, subst}
 use Rattle.flash.specs.Chip.{Chip}
 use Rattle.object.specs.declared.key.Key.{Key}
 use Rattle.object.specs.declared.value.Object.{Object}
@@ -16,7 +16,7 @@ use Rattle.replay.specs.Shows.{ShowsAt}
 use Rattle.replay.specs.Slots.{slot_at, Lives, Collects}
 use Rattle.replay.specs.Telling.{Telling, slot_of, AnyKey, EntryKey, KeysTold}
 use Rattle.replay.proofs.Nothing.{nothing}
-use Rattle.replay.proofs.Tied.{Is, at, page_at, chip_newest, entry_by, newest_shown, remembered_distinct, shows_to, shows_from}
+use Rattle.replay.proofs.Tied.{at, page_at, chip_newest, entry_by, newest_shown, remembered_distinct, shows_to, shows_from}
 
 module _ (c : Chip) (xs : List Seen) (r : Remembers c (length c.pages) xs) (flags : List Bool) (m : Marks xs flags) (f : ℕ) where
   -- some page shows the entry of a file exactly where the log shows it

@@ -1,16 +1,15 @@
 -- The highest numbers of blocks, one page further, and of a whole chip.
-use Rattle.std.proofs.Common.{◌≡◌, ℕ, ◌+◌, ◌*◌, ◌/◌, ◌%◌, ◌<◌, ◌≤◌, ◌≢◌, ◌⊎◌, List, length, get_or, set, sym, refl, ap, ◌∙◌, subst, inl, inr, mod-lt, mul_comm, add-mul, one-mul, arith, length-set}
+use Rattle.std.proofs.Common.{◌≡◌, ℕ, ◌+◌, ◌*◌, ◌/◌, ◌%◌, ◌<◌, ◌≤◌, ◌≢◌, ◌⊎◌, List, length, get_or, set, sym, ap, ◌∙◌, subst, inl, inr, mod-lt, mul_comm, add-mul, one-mul, arith, length-set}
 use native.Mathlib.Decide.{ℕ_discrete, dec_lt}
 use native.Mathlib.Nat.{div-add-mod, div-eq_of_lt-le}
 use Rattle.std.proofs.lemmas.List.{get_or-set_same, get_or-set_other, get_or_default}
-use Rattle.flash.specs.Chip.{Chip, InBlock}
+use Rattle.flash.specs.Chip.{Chip}
 use Rattle.replay.specs.declared.seen.Seen.{Seen}
-use Rattle.replay.specs.Log.{LogOf, Logged, number_of}
 use Rattle.replay.specs.Remembers.{Remembers}
 use Rattle.replay.specs.Seen.{seen_number}
 use Rattle.replay.specs.Tops.{BlockTop, RisingNumbers, TopAmong, Tops}
 use Rattle.replay.proofs.Nothing.{nothing}
-use Rattle.replay.proofs.Tied.{Is, at, page_at}
+use Rattle.replay.proofs.Tied.{at, page_at}
 
 split : (i j : ℕ) → j < i + 1 → (j < i) ⊎ (j ≡ i)
 split i j h = elim (dec_lt j i) [ yes l ↦ inl l | no g ↦ inr (omega arith) ]

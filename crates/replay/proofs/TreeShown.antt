@@ -1,6 +1,6 @@
 -- The entries read from the places of the entries' slots are those shown.
-use Rattle.std.proofs.Common.{◌≡◌, ℕ, ◌+◌, ◌*◌, ◌<◌, List, length, get_or, Ok, Result, sym, refl, ap, ◌∙◌, subst, arith}
-use Rattle.flash.specs.Chip.{Chip, page}
+use Rattle.std.proofs.Common.{◌≡◌, ℕ, ◌<◌, List, length, get_or, Ok, Result, sym, refl, ap, ◌∙◌, subst, arith}
+use Rattle.flash.specs.Chip.{Chip}
 use Rattle.object.specs.declared.key.Key.{Key}
 use Rattle.object.specs.declared.value.Object.{Object}
 use Rattle.object.specs.declared.value.Object.TheVariants as object
@@ -13,8 +13,8 @@ use Rattle.tree.specs.Tree.{Among}
 use Rattle.replay.specs.declared.slot.Slot.{Slot}
 use Rattle.replay.specs.Entries.{EntryShown, TreeShown, EntryPage, EntryPlace, RisingFiles, EntriesAt}
 use Rattle.replay.specs.Log.{LogOf, Logged, entry_key, Counts, Shown, Distinct}
-use Rattle.replay.specs.Slots.{slot_at, slot_rank}
-use Rattle.replay.specs.Telling.{Telling, slot_of, EntryKey, KeysTold}
+use Rattle.replay.specs.Slots.{slot_at}
+use Rattle.replay.specs.Telling.{Telling, EntryKey, KeysTold}
 use Rattle.replay.proofs.Nothing.{nothing}
 use Rattle.replay.proofs.Tied.{chip_newest, entry_by, newest_shown}
 

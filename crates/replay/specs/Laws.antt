@@ -2,7 +2,7 @@
 use Rattle.std.specs.Prelude.{◌≡◌, ℕ, ◌<◌, ◌≤◌, true, ◌⊎◌, length}
 use Rattle.flash.specs.Chip.{Chip, InBlock, page}
 use Rattle.page.specs.Code.{is_data}
-use Rattle.replay.specs.Log.{Log, LogOf, Logged, number_of, floor_of, index_of, size_of, Part, Counts, Top, Distinct, Same}
+use Rattle.replay.specs.Log.{LogOf, Logged, number_of, floor_of, index_of, size_of, Part, Counts, Top, Distinct, Same}
 
 -- the place holds a data page
 abbrev pub DataAt : Chip → ℕ → Type 0

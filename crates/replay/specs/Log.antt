@@ -1,5 +1,5 @@
 -- What a log of data pages tells, without an order of steps. A log is a predicate on pages: no sorting, no maximum.
-use Rattle.std.specs.Prelude.{◌≡◌, ℕ, ◌+◌, ◌<◌, ◌≤◌, List, length, Ok}
+use Rattle.std.specs.Prelude.{◌≡◌, ℕ, ◌+◌, ◌<◌, ◌≤◌, length, Ok}
 use Rattle.flash.specs.Chip.{Chip, page}
 use Rattle.object.specs.declared.key.Key.{Key}
 use Rattle.object.specs.declared.value.Object.{Object}

@@ -1,4 +1,4 @@
-use Rattle.std.proofs.Common.{◌≡◌, ℕ, ◌+◌, ◌*◌, ◌%◌, ◌<◌, ◌≤◌, min, ◌≢◌, length, get_or, take, drop, sym, ap, ◌∙◌, arith, length-drop, length-take, get_or-set_other, get_or-set_same, below_more}
+use Rattle.std.proofs.Common.{◌≡◌, ◌+◌, ◌*◌, ◌%◌, ◌<◌, ◌≢◌, length, get_or, take, drop, sym, ap, ◌∙◌, arith, length-drop, length-take, get_or-set_other, get_or-set_same, below_more}
 use native.Mathlib.Decide.{dec_lt}
 use Rattle.std.proofs.lemmas.List.{ext_get_or, get_or-take, get_or-drop}
 use Rattle.flash.specs.Chip.{filled}

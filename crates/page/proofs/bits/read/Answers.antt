@@ -1,4 +1,4 @@
-use Rattle.std.proofs.Common.{◌≡◌, ℕ, suc, ◌+◌, ◌*◌, ◌%◌, ◌^◌, ◌<◌, ◌≤◌, sym, refl, ap, ◌∙◌, add-one, arith, pow_mono}
+use Rattle.std.proofs.Common.{◌≡◌, suc, ◌+◌, ◌^◌, ◌<◌, ◌≤◌, sym, ap, add-one, arith, pow_mono}
 use Rattle.page.specs.Bits.{bit, field}
 use Rattle.page.proofs.BitLaws.{bit_below, field_more, field_none}
 use Rattle.page.proofs.bits.read.Goals as goal

@@ -5,7 +5,6 @@ use Rattle.page.specs.Code.{blank, is_data}
 use Rattle.page.specs.Decoded.{decoded}
 use Rattle.page.specs.Encoded.{body, encoded}
 use Rattle.page.specs.Fits.{fits}
-use Rattle.page.specs.Worked.{WorkedPages}
 use Rattle.page.proofs.worked.worked_pages.Goals as goal
 
 pub returns : goal.returns

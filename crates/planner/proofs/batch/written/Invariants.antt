@@ -1,4 +1,4 @@
-use Rattle.std.proofs.Common.{◌+◌, ◌≤◌}
+use Rattle.std.proofs.Common.{◌+◌}
 use Rattle.planner.specs.Slots.{listed}
 use Rattle.planner.specs.Written.{Written}
 use Rattle.planner.proofs.batch.written.Given as goal

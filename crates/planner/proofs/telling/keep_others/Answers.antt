@@ -1,4 +1,4 @@
-use Rattle.std.proofs.Common.{◌≡◌, ℕ, ◌≤◌, sym, subst, arith}
+use Rattle.std.proofs.Common.{◌≡◌, subst, arith}
 use Rattle.planner.proofs.Firsts.{rising_rises}
 use Rattle.planner.proofs.Forgetting.{Kept, kept_none, kept_skip, kept_more, kept_all}
 use Rattle.planner.proofs.telling.keep_others.Goals as goal

@@ -1,4 +1,3 @@
-use Rattle.std.proofs.Common.{arith}
 use Rattle.replay.specs.declared.slot.Slot.{Slot}
 use Rattle.replay.specs.Slots.{slot_at}
 use Rattle.replay.proofs.collect.put_slot.Goals as goal

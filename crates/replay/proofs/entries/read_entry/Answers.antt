@@ -1,8 +1,7 @@
-use Rattle.std.proofs.Common.{◌≡◌, ℕ, List, Some, None, Option, sym, ap, ◌∙◌, subst, arith}
-use Rattle.flash.specs.Chip.{Chip, page}
+use Rattle.std.proofs.Common.{◌≡◌, ℕ, Some, None, Option, sym, ap, ◌∙◌, subst, arith}
+use Rattle.flash.specs.Chip.{page}
 use Rattle.flash.proofs.Filling.{filled_whole}
 use Rattle.page.specs.declared.fields.Entry.{Entry}
-use Rattle.page.specs.Decoded.{decoded}
 use Rattle.replay.specs.Entries.{entry_read, EntryPage}
 use Rattle.replay.proofs.EntryTable.{entry_page_reads}
 use Rattle.replay.proofs.entries.read_entry.Goals as goal

@@ -1,4 +1,4 @@
-use Rattle.std.proofs.Common.{◌-◌, length}
+use Rattle.std.proofs.Common.{◌-◌}
 use Rattle.replay.specs.Marks.{Flagged}
 use Rattle.replay.proofs.marks.flag_last.Given as goal
 

@@ -1,4 +1,3 @@
-use Rattle.std.proofs.Common.{◌≤◌, length}
 use Rattle.replay.specs.declared.seen.Seen.{Seen}
 use Rattle.replay.specs.Gathered.{Gathers}
 use Rattle.replay.specs.Marks.{taken}

@@ -1,4 +1,4 @@
-use Rattle.std.proofs.Common.{◌-◌, ◌*◌, ◌≤◌, ap, arith}
+use Rattle.std.proofs.Common.{◌-◌, ◌*◌, ap, arith}
 use Rattle.std.proofs.lemmas.Bool.{leb-true, le-leb}
 use Rattle.page.specs.declared.fields.Entry.{Entry}
 use Rattle.tree.specs.Table.{nodes_of}

@@ -1,4 +1,4 @@
-use Rattle.std.proofs.Common.{sym, ap, ◌∙◌}
+use Rattle.std.proofs.Common.{ap, ◌∙◌}
 use Rattle.work_page.specs.Lent.{ones}
 use Rattle.replay.proofs.scanning.scan.Goals as goal
 

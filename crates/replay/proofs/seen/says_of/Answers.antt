@@ -1,6 +1,5 @@
 use Rattle.std.proofs.Common.{◌≡◌, ◌<◌, true, ltb, subst, arith}
 use Rattle.std.proofs.lemmas.Bool.{and_parts, ltb-true}
-use Rattle.page.specs.declared.fields.Content.TheVariants as content
 use Rattle.page.specs.Fits.{fits, header_fits, file_fits, content_fits}
 use Rattle.replay.proofs.seen.says_of.Goals as goal
 

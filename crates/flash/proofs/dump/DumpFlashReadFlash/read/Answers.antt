@@ -1,4 +1,4 @@
-use Rattle.std.proofs.Common.{◌≡◌, ◌*◌, ◌<◌, true, sym, refl, ap, ◌∙◌, arith}
+use Rattle.std.proofs.Common.{◌*◌, ◌<◌, true, sym, refl, ap, ◌∙◌, arith}
 use Rattle.flash.specs.Chip.{filled}
 use Rattle.flash.specs.Cuts.{image_long, cut_at, image_fits, length_octets}
 use Rattle.flash.specs.Image.{image_blocks, octets}

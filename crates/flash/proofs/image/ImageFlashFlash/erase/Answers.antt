@@ -1,4 +1,4 @@
-use Rattle.std.proofs.Common.{◌≡◌, ◌+◌, ◌-◌, ◌*◌, ◌<◌, true, ltb, length, take, drop, replicate, Err, sym, ap, ◌∙◌, subst, arith, length-drop, length-take, rules, ltb-false, ltb-true}
+use Rattle.std.proofs.Common.{◌≡◌, ◌+◌, ◌-◌, ◌*◌, ◌<◌, true, ltb, length, take, drop, replicate, Err, sym, ap, ◌∙◌, subst, arith, length-drop, length-take, ltb-false, ltb-true}
 use Rattle.flash.specs.Faults.{Admits}
 use Rattle.flash.specs.Image.{image_blocks, image_chip}
 use Rattle.flash.specs.ImageCalls.{ErasesImage, view}

@@ -1,4 +1,4 @@
-use Rattle.std.proofs.Common.{◌≡◌, ◌*◌, ◌<◌, true, ltb, length, Err, sym, ap, ◌∙◌, subst, arith, rules, ltb-false, ltb-true}
+use Rattle.std.proofs.Common.{◌≡◌, ◌*◌, ◌<◌, true, ltb, Err, sym, subst, arith, rules, ltb-false, ltb-true}
 use Rattle.flash.specs.Cuts.{image_long}
 use Rattle.flash.specs.Faults.{Admits}
 use Rattle.flash.specs.Image.{image_blocks, image_chip}

@@ -1,4 +1,4 @@
-use Rattle.std.proofs.Common.{◌≡◌, ◌*◌, ◌<◌, true, ltb, sym, refl, ap, ◌∙◌, subst, arith, ltb-false, ltb-true}
+use Rattle.std.proofs.Common.{◌*◌, ◌<◌, ltb, sym, ap, ◌∙◌, subst, arith, ltb-false, ltb-true}
 use Rattle.flash.specs.Chip.{filled}
 use Rattle.flash.specs.Cuts.{image_long, cut_at, image_fits, length_octets}
 use Rattle.flash.specs.Image.{image_blocks, image_chip, octets}

@@ -1,4 +1,4 @@
-use Rattle.std.proofs.Common.{◌≡◌, ltb, Err, sym, ◌∙◌, subst, arith, ltb-true}
+use Rattle.std.proofs.Common.{ltb, Err, sym, ◌∙◌, subst, arith, ltb-true}
 use Rattle.flash.specs.Faults.{Admits}
 use Rattle.flash.proofs.Joining.{erase_not_admitted, erase_first, erase_second}
 use Rattle.flash.proofs.Refusals.{handed_on}

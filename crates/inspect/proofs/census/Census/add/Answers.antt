@@ -1,4 +1,4 @@
-use Rattle.std.proofs.Common.{◌≡◌, sym, ap, ◌∙◌}
+use Rattle.std.proofs.Common.{sym, ap, ◌∙◌}
 use Rattle.inspect.specs.Counted.{widened_by}
 use Rattle.inspect.proofs.Counting.{counted_erased, counted_spoilt, counted_data}
 use Rattle.inspect.proofs.census.Census.add.Goals as goal

@@ -1,5 +1,5 @@
 use native.Mathlib.Decide.{ℕ_discrete}
-use Rattle.std.proofs.Common.{◌≡◌, sym, subst}
+use Rattle.std.proofs.Common.{sym, subst}
 use Rattle.planner.specs.Mountable.{found, Agree}
 use Rattle.planner.proofs.Limits.{below_one}
 use Rattle.planner.proofs.scanned.Scanned.all_agree.Goals as goal

@@ -1,5 +1,3 @@
-use Rattle.std.proofs.Common.{◌≡◌}
-use Rattle.planner.specs.Mountable.{found, Mountable}
 use Rattle.planner.proofs.Judging.{judged_sound}
 use Rattle.planner.proofs.scanned.Scanned.is_mountable.Goals as goal
 

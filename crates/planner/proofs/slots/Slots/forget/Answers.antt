@@ -1,4 +1,4 @@
-use Rattle.std.proofs.Common.{◌≡◌, take, ◌∙◌, arith}
+use Rattle.std.proofs.Common.{take, ◌∙◌, arith}
 use Rattle.planner.specs.Slots.{listed}
 use Rattle.planner.proofs.Firsts.{the_rising, the_narrow}
 use Rattle.planner.proofs.Forgetting.{forgets_narrow}

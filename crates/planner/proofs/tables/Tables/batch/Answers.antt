@@ -1,4 +1,4 @@
-use Rattle.std.proofs.Common.{◌+◌, ◌≤◌, length, arith}
+use Rattle.std.proofs.Common.{◌+◌, length, arith}
 use Rattle.planner.specs.Slots.{listed}
 use Rattle.planner.specs.Steps.{state}
 use Rattle.planner.proofs.Counts.{alike_self, same_count}

@@ -1,4 +1,3 @@
-use Rattle.std.proofs.Common.{◌≡◌, subst}
 use Rattle.planner.specs.Steps.{state}
 use Rattle.planner.proofs.Finding.{rest_free}
 use Rattle.planner.proofs.Choosing.{room_left}

@@ -1,6 +1,4 @@
-use Rattle.std.proofs.Common.{◌≡◌, ◌⊎◌, refl, inl, inr}
-use Rattle.std.proofs.lemmas.Bool.{not-true, not-false}
-use Rattle.planner.specs.Steps.{state}
+use Rattle.std.proofs.Common.{refl, inl, inr}
 use Rattle.planner.proofs.Choosing.{room_in}
 use Rattle.planner.proofs.tables.Tables.has_room.Goals as goal
 

@@ -1,6 +1,5 @@
-use Rattle.std.proofs.Common.{◌≡◌, sym, ◌∙◌}
+use Rattle.std.proofs.Common.{◌∙◌}
 use Rattle.std.proofs.lemmas.Bool.{both_ways}
-use Rattle.planner.specs.Steps.{state}
 use Rattle.planner.proofs.Choosing.{room_left, number_left, next_none, next_one}
 use Rattle.planner.proofs.tables.Tables.later_step.Goals as goal
 

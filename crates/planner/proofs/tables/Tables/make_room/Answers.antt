@@ -1,7 +1,7 @@
-use Rattle.std.proofs.Common.{◌≡◌, sym, ◌∙◌, arith}
+use Rattle.std.proofs.Common.{sym, ◌∙◌, arith}
 use Rattle.planner.specs.Steps.{state}
 use Rattle.planner.proofs.Phases.{copies_making}
-use Rattle.planner.proofs.Rounds.{Going, going_on, going_made, open_rest}
+use Rattle.planner.proofs.Rounds.{going_on, going_made, open_rest}
 use Rattle.planner.proofs.tables.Tables.make_room.Goals as goal
 
 pub returns-in-Ready : goal.returns-in-Ready

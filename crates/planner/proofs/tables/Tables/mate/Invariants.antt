@@ -1,4 +1,4 @@
-use Rattle.std.proofs.Common.{◌≡◌, ℕ, ◌<◌, ◌≤◌}
+use Rattle.std.proofs.Common.{◌≡◌, ℕ, ◌<◌}
 use Rattle.planner.specs.Steps.{state}
 use Rattle.planner.proofs.tables.Tables.mate.Given as goal
 

@@ -1,4 +1,4 @@
-use Rattle.std.proofs.Common.{◌≡◌, ℕ, length, sym, refl, ap, ◌∙◌, arith}
+use Rattle.std.proofs.Common.{◌≡◌, length, sym, refl, ap, ◌∙◌, arith}
 use Rattle.planner.specs.Formats.{Sizes}
 use Rattle.planner.proofs.Firsts.{listed_long}
 use Rattle.planner.proofs.Fresh.{fresh_sound, fresh_free}

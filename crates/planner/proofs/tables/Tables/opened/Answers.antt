@@ -1,5 +1,4 @@
-use Rattle.std.proofs.Common.{◌≡◌, ℕ, ◌<◌, ◌≤◌, length, set, Some, refl, ◌∙◌, arith, length-set}
-use mathlib.Core.Logic.{∥∥₁_map}
+use Rattle.std.proofs.Common.{ℕ, ◌<◌, set, Some, refl, ◌∙◌, arith, length-set}
 use Rattle.planner.specs.State.{State}
 use Rattle.planner.specs.Moves.{Opened}
 use Rattle.planner.specs.Shape.{shape}

@@ -1,7 +1,5 @@
-use Rattle.std.proofs.Common.{◌≡◌, true, false, List, sym, refl, subst}
+use Rattle.std.proofs.Common.{subst}
 use borrow.Author.Tests.{both_ways}
-use Rattle.page.specs.declared.fields.Header.{Header}
-use Rattle.replay.specs.declared.group.Group.{Group}
 use Rattle.replay.specs.Gathered.{Gathers}
 use Rattle.replay.proofs.Gathering.{from_idle, from_whole, from_part, gone_on, made_whole}
 use Rattle.replay.proofs.group.Group.take.Goals as goal
