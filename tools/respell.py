@@ -18,6 +18,8 @@ TOKEN = re.compile(r'[^\s(){}.,;:@"«»]+')
 GOAL = re.compile(r":\s*(?:goal|need|given)\.")
 MADE = ("loop-", "invariant-loop-", "decreases-", "returns-", "overflow", "bounds-", "slice_bounds", "in-Continue", "in-Break")
 KEEP_CAPITAL = {"Stands-key": "stands_key"}
+# What port.py took for a function.
+FACTS = {"Counted_at": "CountedAt"}
 
 
 def files(root, endings):
@@ -34,8 +36,8 @@ def read(path):
 
 
 def spelled(name):
-    if name in KEEP_CAPITAL:
-        return KEEP_CAPITAL[name]
+    if name in KEEP_CAPITAL or name in FACTS:
+        return KEEP_CAPITAL.get(name) or FACTS[name]
     if name[0].isupper():
         return "".join(part[:1].upper() + part[1:] for part in name.split("-"))
     if re.fullmatch(r"[a-z]+[A-Z][a-z]+", name):
@@ -66,6 +68,7 @@ def table():
         for name in re.findall(r"\buse\s[^;\n]*", read(path)):
             own.update((w, path) for w in re.findall(r"\bas ([\w']+-[\w'-]+)", name))
     own["perBlock"] = "crates/flash/src/traits.rt"
+    own.update((n, "") for n in FACTS)
     made = {n for n in own if n.startswith(MADE) or n.endswith("-requires") and "proofs/" in own[n] and n in GOALS}
     return {n: spelled(n) for n in own if n not in foreign and n not in made and n not in GOALS}, sorted(set(own) & foreign)
 
@@ -116,7 +119,7 @@ def main():
             print(f"{old}\t{new}")
         return
     places = [(p, "antt" if p.endswith(".antt") else "rt") for p in files("crates", (".antt", ".rt", ".edit"))]
-    places += [(p, "md") for p in list(files("docs", (".md",))) + ["README.md"]]
+    places += [(p, "md") for p in list(files("docs", (".md",))) + ["README.md"] if not p.endswith("PORT.md")]
     for path, kind in places:
         old = read(path)
         new = turned(old, names, kind)

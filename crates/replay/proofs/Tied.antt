@@ -21,7 +21,7 @@ use Rattle.replay.specs.Changes.{On}
 use Rattle.replay.specs.Marks.{Marks, GroupedIn, seen_index, seen_size}
 use Rattle.replay.specs.Remembers.{Remembers}
 use Rattle.replay.specs.Seen.{says_by, seen_of, seen_number}
-use Rattle.replay.specs.Shows.{SaidTo, Counted_at, ShowsAt}
+use Rattle.replay.specs.Shows.{SaidTo, CountedAt, ShowsAt}
 use Rattle.replay.specs.Walks.{Newest}
 use Rattle.replay.proofs.Base.{shown_same, complete_more}
 use Rattle.replay.proofs.Listed.{listed, listed_to, listed_from}
@@ -119,7 +119,7 @@ module _ (c : Chip) (xs : List Seen) (r : Remembers c (length c.pages) xs) where
       ])
 
   module _ (flags : List Bool) (m : Marks xs flags) (f : ℕ) where
-    pub counted_to : (i : ℕ) (p : Logged) → Is c xs i p → Counted_at xs flags f i → Counts (LogOf c) f p
+    pub counted_to : (i : ℕ) (p : Logged) → Is c xs i p → CountedAt xs flags f i → Counts (LogOf c) f p
     counted_to i p x counted =
         record { here = x.here; high = omega (arith, counted.1 nothing, ap seen_number (x.is nothing)); whole = whole }
       where
@@ -136,7 +136,7 @@ module _ (c : Chip) (xs : List Seen) (r : Remembers c (length c.pages) xs) where
               },
             )
 
-    pub counted_from : (i : ℕ) (p : Logged) → Is c xs i p → Counts (LogOf c) f p → Counted_at xs flags f i
+    pub counted_from : (i : ℕ) (p : Logged) → Is c xs i p → Counts (LogOf c) f p → CountedAt xs flags f i
     counted_from i p x counts = ((m i nothing x.low).1 grouped, λ d. omega (arith, counts.high, ap seen_number (x.is d)))
       where
         grouped : GroupedIn xs nothing (get_or xs i nothing)

@@ -13,14 +13,14 @@ SaidTo (Sets j) k = j ≡ k
 SaidTo (Removes j) k = j ≡ k
 
 -- the page at i has its flag and a number at or above the floor
-abbrev pub Counted_at : List Seen → List Bool → ℕ → ℕ → Type 0
-Counted_at xs flags f i = (slice_index_or flags i false ≡ true) × ((d : Seen) → f ≤ seen_number (slice_index_or xs i d))
+abbrev pub CountedAt : List Seen → List Bool → ℕ → ℕ → Type 0
+CountedAt xs flags f i = (slice_index_or flags i false ≡ true) × ((d : Seen) → f ≤ seen_number (slice_index_or xs i d))
 
 -- the page at i counts and sets the key, and no later page that counts speaks to it
 pub record ShowsAt (xs : List Seen) (flags : List Bool) (f i : ℕ) (k : Key) : Type 0 where
-  pub counted : Counted_at xs flags f i
+  pub counted : CountedAt xs flags f i
   pub sets : (d : Seen) → (get_or xs i d).says ≡ Sets k
-  pub newest : (j : ℕ) (d : Seen) → i < j → j < length xs → Counted_at xs flags f j → SaidTo (get_or xs j d).says k → ⊥
+  pub newest : (j : ℕ) (d : Seen) → i < j → j < length xs → CountedAt xs flags f j → SaidTo (get_or xs j d).says k → ⊥
 
 -- the key that the page at i shows, exactly where it shows one
 abbrev pub Shows : List Seen → List Bool → ℕ → ℕ → Option Key → Type 0

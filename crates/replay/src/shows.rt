@@ -1,6 +1,6 @@
 // Which of the remembered pages shows which key.
 ghost use Rattle.std.specs.Prelude.{◌≡◌, ◌<◌, ◌≤◌, length, Decides};
-ghost use Rattle.replay.specs.Shows.{Counted_at, SaidTo, Shows};
+ghost use Rattle.replay.specs.Shows.{CountedAt, SaidTo, Shows};
 
 use crate::seen::{Says, Seen};
 use object::Key;
@@ -8,7 +8,7 @@ use object::Key;
 // Whether the page at `i` counts.
 fn counts(seen: &[Seen], flags: &[bool], floor: u32, i: usize) -> bool
     requires { (i < length seen.now) × (length seen.now ≤ length flags.now) }
-    ensures { Decides result (Counted_at seen.now flags.now floor i) }
+    ensures { Decides result (CountedAt seen.now flags.now floor i) }
 {
     flags[i] && floor <= seen[i].header.number
 }
