@@ -3,7 +3,7 @@ ghost use Rattle.std.specs.Prelude.{◌≡◌, ℕ, ◌+◌, ◌<◌, ◌≤◌}
 ghost use Rattle.planner.specs.State.{Free};
 ghost use Rattle.planner.specs.Moves.{Opened, Copied, Rises};
 ghost use Rattle.planner.specs.Making.{Spare};
-ghost use Rattle.planner.specs.Steps.{state, «MayOpen», «MayCopy», «PhaseAfter», Advances, «SameKeys»};
+ghost use Rattle.planner.specs.Steps.{state, MayOpen, MayCopy, PhaseAfter, Advances, SameKeys};
 
 use crate::free::Spares;
 use crate::head::{Head, Phase};

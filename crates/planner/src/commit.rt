@@ -1,8 +1,8 @@
 // A batch is written into the room made for it.
 ghost use Rattle.std.specs.Prelude.{◌≡◌, ℕ, ◌+◌, ◌^◌, ◌<◌, ◌≤◌, length, Some, Decides};
-ghost use Rattle.planner.specs.Batches.{«BatchFloor»};
+ghost use Rattle.planner.specs.Batches.{BatchFloor};
 ghost use Rattle.planner.specs.Commits.{Batches, Commits};
-ghost use Rattle.planner.specs.Full.{«FullAfter»};
+ghost use Rattle.planner.specs.Full.{FullAfter};
 ghost use Rattle.planner.specs.Room.{Room};
 ghost use Rattle.planner.specs.Slots.{listed};
 ghost use Rattle.planner.specs.State.{limit};

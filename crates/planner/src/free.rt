@@ -1,7 +1,7 @@
 // Which blocks are free.
 ghost use Rattle.std.specs.Prelude.{◌≡◌, ℕ, ◌≤◌, Decides, MatchOption, ◌≢◌};
 ghost use Rattle.planner.specs.State.{Free};
-ghost use Rattle.planner.specs.Steps.{state, «SparesAre»};
+ghost use Rattle.planner.specs.Steps.{state, SparesAre};
 
 use crate::tables::Tables;
 

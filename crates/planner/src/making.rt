@@ -1,5 +1,5 @@
 // Making room, on the tables alone.
-ghost use Rattle.planner.specs.Makes.{«MakesRoom»};
+ghost use Rattle.planner.specs.Makes.{MakesRoom};
 
 use crate::steps::Step;
 use crate::tables::Tables;

@@ -1,7 +1,7 @@
 // Numbers, and how many are left.
 ghost use Rattle.std.specs.Prelude.{◌≡◌, ℕ, ◌+◌, ◌^◌, ◌<◌, Decides, MatchOption};
-ghost use Rattle.planner.specs.Batches.{«BatchFloor»};
-ghost use Rattle.planner.specs.Shape.{«spent_above»};
+ghost use Rattle.planner.specs.Batches.{BatchFloor};
+ghost use Rattle.planner.specs.Shape.{spent_above};
 ghost use Rattle.planner.specs.State.{limit};
 ghost use Rattle.planner.specs.Steps.{state};
 

@@ -1,7 +1,7 @@
 // What the journal knows while mounted.
 ghost use Rattle.std.specs.Prelude.{◌≡◌, ◌≤◌, length};
 ghost use Rattle.planner.specs.State.{Sound};
-ghost use Rattle.planner.specs.Shape.{shape, «used_of», Keeps};
+ghost use Rattle.planner.specs.Shape.{shape, used_of, Keeps};
 
 use crate::head::{Head, Phase};
 use crate::slots::Slots;
