@@ -14,7 +14,7 @@ use Rattle.replay.specs.Telling.{Telling, AnyKey, KeysTold}
 use Rattle.replay.proofs.Nothing.{nothing}
 use Rattle.replay.proofs.Tied.{chip_newest, newest_shown}
 
-blank : Slot
+pub blank : Slot
 blank = slot_at (entry_key 0) nothing
 
 module _ (c : Chip) (f : ℕ) (slots : List Slot) (told : KeysTold (Counts (LogOf c) f) AnyKey slots) (distinct : Distinct (LogOf c)) (nodes : List Node)

@@ -17,9 +17,6 @@ impl Scan {
     pub fn block_top(&self, block: usize) -> u32
         ensures { result ≡ tops_of self.now block }
     {
-        match self.tops.get(block) {
-            Some(top) => *top,
-            None => 0,
-        }
+        self.tops.get(block).copied().unwrap_or(0)
     }
 }

@@ -5,8 +5,8 @@ ghost use Rattle.object.specs.Rank.{key_rank};
 ghost use Rattle.replay.specs.Slots.{Collects, ShowsWanted, slot_at, slot_rank, SmallParts};
 ghost use Rattle.replay.specs.declared.slot.Slot.{Slot as Place};
 
+use crate::pages::Pages;
 use crate::seen::Seen;
-use crate::shows::shows;
 use crate::slot::Slot;
 use crate::wants::Wants;
 use lookup::{Placed, insert_sorted};
@@ -30,41 +30,30 @@ fn put_slot(slots: &mut [Slot], len: usize, key: Key, page: &Seen)
     }
 }
 
-// The key that the page at `i` shows, where it is wanted.
-fn wanted_at<W: Wants>(
-    seen: &[Seen],
-    flags: &[bool],
-    floor: u32,
-    i: usize,
-    wants: &W,
-) -> Option<Key>
-    requires { (i < length seen.now) × (length seen.now ≤ length flags.now) }
-    ensures { ShowsWanted seen.now flags.now floor i (W.Wants.wanted wants.now) result }
-{
-    let Some(key) = shows(seen, flags, floor, i) else {
-        return None;
-    };
-    if wants.wants(&key) { Some(key) } else { None }
-}
-
-// The wanted keys of those that are shown, in rising order.
-pub(crate) fn collect<W: Wants>(
-    seen: &[Seen],
-    flags: &[bool],
-    floor: u32,
-    wants: &W,
-    slots: &mut [Slot],
-) -> usize
-    requires { (length seen.now ≤ length flags.now) × (length seen.now ≤ length slots.old) × SmallParts seen.now }
-    ensures within { result ≤ length seen.now }
-    ensures collects { Collects seen.now flags.now floor (length seen.now) (W.Wants.wanted wants.now) (take result slots.new) }
-{
-    let mut len = 0;
-    for i in 0..seen.len() {
-        if let Some(key) = wanted_at(seen, flags, floor, i, wants) {
-            put_slot(slots, len, key, &seen[i]);
-            len += 1;
-        }
+impl Pages<'_> {
+    // The key that the page at `i` shows, where it is wanted.
+    fn shows_wanted<W: Wants>(&self, i: usize, wants: &W) -> Option<Key>
+        requires { i < length self.now.seen.now }
+        ensures { ShowsWanted self.now.seen.now self.now.whole.now self.now.floor i (W.Wants.wanted wants.now) result }
+    {
+        let key = self.shows(i)?;
+        if wants.wants(&key) { Some(key) } else { None }
     }
-    len
+
+    // The wanted keys of those that are shown, in rising order.
+    pub(crate) fn collect<W: Wants>(&self, wants: &W, slots: &mut [Slot]) -> usize
+        requires room { length self.now.seen.now ≤ length slots.old }
+        requires small { SmallParts self.now.seen.now }
+        ensures within { result ≤ length self.now.seen.now }
+        ensures collects { Collects self.now.seen.now self.now.whole.now self.now.floor (length self.now.seen.now) (W.Wants.wanted wants.now) (take result slots.new) }
+    {
+        let mut len = 0;
+        for (i, page) in self.seen.iter().enumerate() {
+            if let Some(key) = self.shows_wanted(i, wants) {
+                put_slot(slots, len, key, page);
+                len += 1;
+            }
+        }
+        len
+    }
 }

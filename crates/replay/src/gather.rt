@@ -1,6 +1,5 @@
 // Reading every page of a flash once, and remembering the data pages.
 ghost use Rattle.std.specs.Prelude.{◌≡◌, ◌<◌, ◌≤◌, true, length, IfOk};
-ghost use Rattle.page.specs.Decoded.{decoded};
 ghost use Rattle.page.specs.Fits.{fits as page_fits};
 ghost use Rattle.replay.specs.Remembers.{GathersAll, Powered, TakesIn};
 
@@ -9,17 +8,6 @@ use crate::seen::{Seen, says_of};
 use flash::{PAGE_BYTES, ReadFlash, page_count};
 use lookup::{Placed, insert_sorted};
 use page::{Page, PageFault, decode};
-
-// What the working page says.
-pub(crate) fn decode_work(work: &[u8]) -> Result<Page, PageFault>
-    requires { length work.now ≡ 256 }
-    ensures { result ≡ decoded work.now }
-{
-    match work.first_chunk::<PAGE_BYTES>() {
-        Some(bytes) => decode(bytes),
-        None => Err(PageFault::NotData),
-    }
-}
 
 // Remembers what was read at `place` beside the first `len` pages, and answers how many there are now.
 fn take_in(
@@ -53,18 +41,17 @@ fn take_in(
 // Reads every page once and remembers the data pages, by rising number.
 pub(crate) fn gather<F: ReadFlash>(
     flash: &F,
-    work: &mut [u8],
+    work: &mut [u8; PAGE_BYTES],
     seen: &mut [Seen],
 ) -> Result<usize, ReplayFault>
-    requires page { length work.old ≡ 256 }
-    requires room { length (F.ReadFlash.chip flash.now).pages ≤ length seen.old }
+    requires { length (F.ReadFlash.chip flash.now).pages ≤ length seen.old }
     ensures answer { GathersAll (F.ReadFlash.chip flash.now) result seen.new }
     ensures power { Powered (F.ReadFlash.chip flash.now) result }
 {
     let mut len = 0;
     for place in 0..page_count(flash) {
         flash.read(place, work)?;
-        len = take_in(seen, len, place, decode_work(work))?;
+        len = take_in(seen, len, place, decode(work))?;
     }
     Ok(len)
 }

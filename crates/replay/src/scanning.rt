@@ -6,12 +6,13 @@ ghost use Rattle.replay.specs.Remembers.{Remembers};
 ghost use Rattle.replay.specs.declared.fault.ReplayFault.TheVariants.{WorkPage};
 ghost use Rattle.work_page.specs.Lent.{Lent, Returned};
 
-use crate::collect::collect;
 use crate::entries::read_tree;
 use crate::fault::ReplayFault;
 use crate::gather::gather;
 use crate::marks::mark;
 use crate::overrun::has_overrun;
+use crate::pages::Pages;
+use crate::powered::PoweredFlash;
 use crate::seen::{Says, Seen};
 use crate::slot::Slot;
 use crate::tables::{BLOCK_LIMIT, PAGE_LIMIT, Scan};
@@ -51,25 +52,21 @@ const NO_PAGE: Seen = Seen {
 
 // The entries that the remembered pages show, where they are a tree.
 fn shown_tree<F: ReadFlash>(
-    flash: &F,
-    work: &mut [u8],
-    seen: &[Seen],
-    flags: &[bool],
-    floor: u32,
+    powered: &PoweredFlash<F>,
+    work: &mut [u8; PAGE_BYTES],
+    pages: &Pages,
 ) -> Result<Tree, ReplayFault>
-    requires page { length work.old ≡ 256 }
-    requires on { (F.ReadFlash.chip flash.now).on ≡ true }
-    requires sizes { (length seen.now ≤ length flags.now) × (length seen.now ≤ 256) }
-    requires remembers { Remembers (F.ReadFlash.chip flash.now) (length (F.ReadFlash.chip flash.now).pages) seen.now }
-    requires marks { Marks seen.now flags.now }
-    ensures { Trees (F.ReadFlash.chip flash.now) floor result }
+    requires size { length pages.now.seen.now ≤ 256 }
+    requires remembers { Remembers (F.ReadFlash.chip powered.now.flash.now) (length (F.ReadFlash.chip powered.now.flash.now).pages) pages.now.seen.now }
+    requires marks { Marks pages.now.seen.now pages.now.whole.now }
+    ensures { Trees (F.ReadFlash.chip powered.now.flash.now) pages.now.floor result }
 {
     let mut slots = [NO_SLOT; PAGE_LIMIT];
-    let len = collect(seen, flags, floor, &EntryKeys, &mut slots);
+    let len = pages.collect(&EntryKeys, &mut slots);
     if len > ENTRY_LIMIT {
         return Err(ReplayFault::Damaged);
     }
-    let tree = read_tree(flash, work, &slots[0..len])?;
+    let tree = read_tree(powered, work, &slots[..len])?;
     match tree.fault() {
         None => Ok(tree),
         Some(_) => Err(ReplayFault::Damaged),
@@ -84,24 +81,31 @@ fn key_limit<F: ReadFlash>(flash: &F) -> usize
 }
 
 // The tables of a chip whose data pages are remembered.
-fn scan_seen<F: ReadFlash>(flash: &F, work: &mut [u8], seen: &[Seen]) -> Result<Scan, ReplayFault>
-    requires page { length work.old ≡ 256 }
-    requires on { (F.ReadFlash.chip flash.now).on ≡ true }
-    requires few { FewBlocks (F.ReadFlash.chip flash.now) }
+fn scan_seen<F: ReadFlash>(
+    powered: &PoweredFlash<F>,
+    work: &mut [u8; PAGE_BYTES],
+    seen: &[Seen],
+) -> Result<Scan, ReplayFault>
+    requires few { FewBlocks (F.ReadFlash.chip powered.now.flash.now) }
     requires sizes { (0 < length seen.now) × (length seen.now ≤ 256) }
-    requires remembers { Remembers (F.ReadFlash.chip flash.now) (length (F.ReadFlash.chip flash.now).pages) seen.now }
-    ensures { ScansSeen (F.ReadFlash.chip flash.now) result }
+    requires remembers { Remembers (F.ReadFlash.chip powered.now.flash.now) (length (F.ReadFlash.chip powered.now.flash.now).pages) seen.now }
+    ensures { ScansSeen (F.ReadFlash.chip powered.now.flash.now) result }
 {
-    let mut flags = [false; PAGE_LIMIT];
-    mark(seen, &mut flags);
+    let mut whole = [false; PAGE_LIMIT];
+    mark(seen, &mut whole);
     let top = seen[seen.len() - 1].header;
-    let tree = shown_tree(flash, work, seen, &flags, top.floor)?;
+    let pages = Pages {
+        seen,
+        whole: &whole,
+        floor: top.floor,
+    };
+    let tree = shown_tree(powered, work, &pages)?;
     let mut slots = [NO_SLOT; PAGE_LIMIT];
-    let len = collect(seen, &flags, top.floor, &tree, &mut slots);
-    if len > key_limit(flash) {
+    let len = pages.collect(&tree, &mut slots);
+    if len > key_limit(powered.flash) {
         return Err(ReplayFault::Damaged);
     }
-    if has_overrun(&slots[0..len], &tree) {
+    if has_overrun(&slots[..len], &tree) {
         return Err(ReplayFault::Damaged);
     }
     let mut tops = [0; BLOCK_LIMIT];
@@ -117,8 +121,7 @@ fn scan_seen<F: ReadFlash>(flash: &F, work: &mut [u8], seen: &[Seen]) -> Result<
 }
 
 // What the chip tells.
-fn read_chip<F: ReadFlash>(flash: &F, work: &mut [u8]) -> Result<Scan, ReplayFault>
-    requires { length work.old ≡ 256 }
+fn read_chip<F: ReadFlash>(flash: &F, work: &mut [u8; PAGE_BYTES]) -> Result<Scan, ReplayFault>
     ensures { Scans (F.ReadFlash.chip flash.now) result }
 {
     let blocks = flash.blocks();
@@ -130,7 +133,7 @@ fn read_chip<F: ReadFlash>(flash: &F, work: &mut [u8]) -> Result<Scan, ReplayFau
     if len == 0 {
         return Err(ReplayFault::Empty);
     }
-    scan_seen(flash, work, &seen[0..len])
+    scan_seen(&PoweredFlash { flash }, work, &seen[..len])
 }
 
 /// What the chip tells: the tables that a journal needs, or why there are none. Each page is read once,
@@ -139,9 +142,9 @@ pub fn scan<F: ReadFlash>(flash: &F, work: &mut [u8]) -> Result<Scan, ReplayFaul
     ensures answer { Lent work.old (Scans (F.ReadFlash.chip flash.now) result) (result ≡ Err WorkPage) }
     ensures work { Returned work.old work.new }
 {
-    if work.len() != PAGE_BYTES {
+    let Some(page) = work.as_mut_array::<PAGE_BYTES>() else {
         return Err(ReplayFault::WorkPage);
-    }
-    let guard = Guard(work);
+    };
+    let guard = Guard(page);
     read_chip(flash, guard.0)
 }

@@ -10,17 +10,17 @@ use Rattle.replay.proofs.gather.gather.Goals as goal
 pub take_in-requires : goal.take_in-requires
 take_in-requires g c =
     let read = c.in_ok-read.ensures in
-    record { room = omega (arith, read.1, c.loop-place.invariant.0, c.requires.room); fit = read_fits c.read.new.out c.decode_work.result (sym c.decode_work.ensures) }
+    record { room = omega (arith, read.1, c.loop-place.invariant.0, c.requires); fit = read_fits c.read.new.out c.decode.result (sym c.decode.ensures) }
 
 pub loop-place-preserved : goal.loop-place-preserved
 loop-place-preserved g c =
     let chip = g.F.ReadFlash.chip c.args.flash.now in
     let formed = g.F.ReadFlash.formed c.args.flash.now in
     let read = c.in_ok-read.ensures in
-    let whole = read.2 ∙ filled_whole c.loop-place.work (page chip c.loop-place.place) (c.loop-place.auto.work ∙ c.requires.page ∙ sym (formed.wide c.loop-place.place read.1)) in
+    let whole = read.2 ∙ filled_whole c.loop-place.work (page chip c.loop-place.place) (c.fits-work ∙ sym (formed.wide c.loop-place.place read.1)) in
     let (short, remembers) =
-    step_on chip c.loop-place.place c.loop-place.len c.in_ok-len.len c.loop-place.seen c.take_in.new.seen c.decode_work.result
-    (ap decoded (sym whole) ∙ sym c.decode_work.ensures) read.1 c.loop-place.invariant.0 c.loop-place.invariant.1 c.in_ok-len.ensures in
+    step_on chip c.loop-place.place c.loop-place.len c.in_ok-len.len c.loop-place.seen c.take_in.new.seen c.decode.result
+    (ap decoded (sym whole) ∙ sym c.decode.ensures) read.1 c.loop-place.invariant.0 c.loop-place.invariant.1 c.in_ok-len.ensures in
     (short, remembers, λ some. read.0)
 
 pub returns-in_err-len-clause-answer : goal.returns-in_err-len-clause-answer
@@ -28,10 +28,10 @@ returns-in_err-len-clause-answer g c =
     let chip = g.F.ReadFlash.chip c.args.flash.now in
     let formed = g.F.ReadFlash.formed c.args.flash.now in
     let read = c.in_ok-read.ensures in
-    let whole = read.2 ∙ filled_whole c.loop-place.work (page chip c.loop-place.place) (c.loop-place.auto.work ∙ c.requires.page ∙ sym (formed.wide c.loop-place.place read.1)) in
+    let whole = read.2 ∙ filled_whole c.loop-place.work (page chip c.loop-place.place) (c.fits-work ∙ sym (formed.wide c.loop-place.place read.1)) in
     let e = c.in_err-len.field-0.0 in
-    let stops = step_stops chip c.loop-place.place c.loop-place.len e c.loop-place.seen c.take_in.new.seen c.decode_work.result
-    (ap decoded (sym whole) ∙ sym c.decode_work.ensures) read.1 c.loop-place.invariant.1 c.in_err-len.ensures in
+    let stops = step_stops chip c.loop-place.place c.loop-place.len e c.loop-place.seen c.take_in.new.seen c.decode.result
+    (ap decoded (sym whole) ∙ sym c.decode.ensures) read.1 c.loop-place.invariant.1 c.in_err-len.ensures in
     let back = err_from_is_err_and c.from_residual-in_err-len.result c.from_residual-in_err-len.ensures.1 in
     subst (λ r. GathersAll chip r c.take_in.new.seen) (sym (back.1 ∙ ap Err (back.2 ∙ stops.0))) (read.0, stops.1)
 
