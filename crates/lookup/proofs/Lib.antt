@@ -1,3 +1,4 @@
 pub mod Insertion
+pub mod Retaining
 pub mod Rotating
-pub mod Sorting
+pub mod Thinning
