@@ -10,7 +10,7 @@ impl Scan {
     pub fn keys(&self) -> &[Slot]
         ensures { result.now ≡ slots_of self.now }
     {
-        &self.slots[0..self.len]
+        self.slots.as_slice()
     }
 
     /// The highest number of a block's data pages, 0 where it has none.

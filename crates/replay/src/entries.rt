@@ -1,7 +1,7 @@
 // The entries of a chip, read again from the pages that tell them.
 ghost use Rattle.std.specs.Prelude.{◌≡◌, ℕ, ◌<◌, ◌≤◌, true, length, slice_index_or};
 ghost use Rattle.replay.specs.Entries.{EntryPlace, entry_read, ReadsEntry, ReadsTree, RisingFiles};
-ghost use Rattle.replay.specs.declared.slot.Slot.{Slot as Place};
+ghost use Rattle.object.specs.declared.slot.Slot.{Slot as Place};
 
 use crate::fault::ReplayFault;
 use crate::powered::PoweredFlash;
@@ -42,7 +42,7 @@ pub(crate) fn read_tree<F: ReadFlash>(
     work: &mut [u8; PAGE_BYTES],
     slots: &[Slot],
 ) -> Result<Tree, ReplayFault>
-    requires entries { (i : ℕ) (d : Place) → i < length slots.now → EntryPlace (F.ReadFlash.chip powered.now.flash.now) (slice_index_or slots.now i d).place }
+    requires entries { (i : ℕ) (d : Place ℕ) → i < length slots.now → EntryPlace (F.ReadFlash.chip powered.now.flash.now) (slice_index_or slots.now i d).place }
     requires few { length slots.now ≤ 60 }
     requires rising { RisingFiles slots.now }
     ensures { ReadsTree (F.ReadFlash.chip powered.now.flash.now) slots.now result }
@@ -50,6 +50,7 @@ pub(crate) fn read_tree<F: ReadFlash>(
     let mut tree = Tree::new();
     for slot in slots {
         let entry = read_entry(powered, work, slot.place)?;
+        // Never refused: the files rise, and they are 60 at most.
         let _ = tree.add(slot.key.file, entry);
     }
     Ok(tree)

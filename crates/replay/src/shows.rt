@@ -1,7 +1,7 @@
 // Which of the remembered pages shows which key.
 ghost use Rattle.std.specs.Prelude.{◌≡◌, ◌<◌, length, Decides};
 ghost use Rattle.object.specs.declared.key.Key.{Key as Name};
-ghost use Rattle.replay.specs.Shows.{CountedAt, SaidTo, Shows, SpokenAfter};
+ghost use Rattle.replay.specs.Shows.{CountedAt, SaidTo, Shows, SpeaksAt, SpokenAfter};
 
 use crate::pages::Pages;
 use crate::seen::Says;
@@ -27,12 +27,20 @@ impl Pages<'_> {
         self.whole[i] && self.floor <= self.seen[i].header.number
     }
 
+    // Whether the page at `i` counts and speaks to the key.
+    fn speaks(&self, i: usize, key: &Key) -> bool
+        requires { i < length self.now.seen.now }
+        ensures { Decides result (SpeaksAt self.now.seen.now self.now.whole.now self.now.floor i key.now) }
+    {
+        self.counts(i) && said_to(self.seen[i].says, key)
+    }
+
     // Whether a page after the one at `i` counts and speaks to the key.
     fn spoken_after(&self, i: usize, key: &Key) -> bool
         requires { i < length self.now.seen.now }
         ensures { Decides result (SpokenAfter self.now.seen.now self.now.whole.now self.now.floor i key.now) }
     {
-        (i + 1..self.seen.len()).any(|j| self.counts(j) && said_to(self.seen[j].says, key))
+        (i + 1..self.seen.len()).any(|j| self.speaks(j, key))
     }
 
     // The key that the page at `i` shows.

@@ -9,4 +9,4 @@ loop-page-init c = λ b h. top_none c.args.seen.now c.args.per_block b _ (c.fill
 pub loop-page-preserved : goal.loop-page-preserved
 loop-page-preserved c =
     tops_on c.args.seen.now c.args.per_block c.loop-page.page-index c.loop-page-test.true c.requires.rising c.loop-page.tops _ _ refl refl
-    (omega (arith, c.requires.inside c.loop-page.page-index nothing c.loop-page-test.true, c.loop-page.auto.tops, c.fill.ensures.len)) c.loop-page.page-indexnvariant
+    (omega (arith, c.requires.inside c.loop-page.page-index nothing c.loop-page-test.true, c.loop-page.auto.tops, c.fill.ensures.len)) c.loop-page.invariant
