@@ -1,5 +1,6 @@
 -- A record put in its place by its rank.
-use Rattle.std.specs.Prelude.{◌≡◌, ℕ, ◌+◌, ◌<◌, ◌≤◌, List, length, take, Ok, Err, Result, slice_index_or}
+use Rattle.std.specs.Prelude.{◌≡◌, ℕ, ◌+◌, ◌<◌, ◌≤◌, ◌⊎◌, List, length, take, Ok, Err, Result, slice_index_or, slice_set}
+use Rattle.lookup.specs.Found.{Absent}
 use Rattle.std.specs.List.{insert}
 use Rattle.lookup.specs.declared.sorted.Unplaced.{Unplaced}
 use Rattle.lookup.specs.declared.sorted.Unplaced.TheVariants.{Taken, Full}
@@ -29,3 +30,17 @@ Enters ranked n before new (Ok _) after = (length before < n) × InPlace ranked 
 Enters {R} ranked n before new (Err Taken) after =
     (length before < n) × (after ≡ before) × ((at : ℕ) × (at < length before) × ((d : R) → ranked (slice_index_or before at d) ≡ ranked new))
 Enters ranked n before new (Err Full) after = (length before ≡ n) × (after ≡ before)
+
+-- the new record stands in place of the one with its rank
+pub record Replaces {R : Type 0} (ranked : R → ℕ) (xs : List R) (new : R) (ys : List R) : Type 0 where
+  pub at : ℕ
+  pub within : at < length xs
+  pub one : (d : R) → ranked (slice_index_or xs at d) ≡ ranked new
+  pub is : ys ≡ slice_set xs at new
+
+-- the new record stands in place of the one with its rank, or else in its own place among n at most; or no record has its rank and there are n: then nothing changed
+abbrev pub Puts : {R : Type 0} → (R → ℕ) → ℕ → List R → R → Result (Unit {0}) Unplaced → List R → Type 0
+Puts ranked n before new (Ok _) after =
+    Replaces ranked before new after ⊎ ((length before < n) × Absent ranked before (ranked new) (length before) × InPlace ranked before new after)
+Puts ranked n before new (Err Full) after = (length before ≡ n) × Absent ranked before (ranked new) (length before) × (after ≡ before)
+Puts ranked n before new (Err Taken) after = ⊥

@@ -2,8 +2,9 @@
 ghost use Rattle.std.specs.Prelude.{◌≡◌, []};
 ghost use Rattle.std.specs.Fn.{CalledAt};
 ghost use Rattle.std.specs.List.Retain.{IsFiltered};
+ghost use Rattle.lookup.specs.Found.{Found};
 ghost use Rattle.lookup.specs.Rows.{rows};
-ghost use Rattle.lookup.specs.Sorts.{Enters};
+ghost use Rattle.lookup.specs.Sorts.{Enters, Puts};
 
 use crate::sorted::{Ranked, Unplaced, insert_sorted, retain};
 use crate::table::Table;
@@ -34,6 +35,28 @@ impl<R: Ranked + Copy, const N: usize> Table<R, N> {
         insert_sorted(&mut self.records, self.len, new)?;
         self.len += 1;
         Ok(())
+    }
+
+    // Where the record with this rank is.
+    fn find_rank(&self, rank: u64) -> Option<usize>
+        ensures { Found R.Ranked.ranked (rows self.now) rank result }
+    {
+        self.as_slice()
+            .iter()
+            .position(|record| record.rank() == rank)
+    }
+
+    /// Puts a record in place of the one with its rank, or else between the others; nothing changes where there is no room.
+    pub fn put(&mut self, new: R) -> Result<(), Unplaced>
+        ensures { Puts R.Ranked.ranked N (rows self.old) new result (rows self.new) }
+    {
+        match self.find_rank(new.rank()) {
+            Some(at) => {
+                self.records[at] = new;
+                Ok(())
+            }
+            None => self.insert(new),
+        }
     }
 
     /// Keeps the records of which `keep` says so, in their order.

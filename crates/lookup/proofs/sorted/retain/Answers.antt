@@ -1,5 +1,5 @@
-use Rattle.std.proofs.Common.{◌≡◌, ℕ, ◌+◌, ◌-◌, ◌<◌, ◌≤◌, ◌++◌, List, [], ◌∷◌, length, take, drop, set, sym, refl, ap, ◌∙◌, subst, arith, of_calls}
-use Rattle.std.proofs.lemmas.List.{append-nil, drop_more, drop-set-lt, length-set, take_min}
+use Rattle.std.proofs.Common.{◌+◌, ◌<◌, ◌∷◌, length, take, sym, refl, ap, ◌∙◌, subst, arith, of_calls}
+use Rattle.std.proofs.lemmas.List.{drop-set-lt, length-set, take_min}
 use Rattle.std.proofs.lemmas.Grind.{drop_more_same}
 use Rattle.std.specs.Fn.{CalledAt}
 use Rattle.std.specs.List.Retain.{IsFiltered}

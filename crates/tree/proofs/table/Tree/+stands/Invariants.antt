@@ -1,4 +1,4 @@
-use Rattle.tree.proofs.standing.+stands.Given as goal
+use Rattle.tree.proofs.table.Tree.+stands.Given as goal
 
 abbrev pub decreases-stands : goal.decreases-stands
 decreases-stands l = l.names
