@@ -63,7 +63,9 @@ impl From<Unplaced> for ReplayFault {
 impl From<TreeFault> for ReplayFault {
     ghost from_gives = { λ _ y. y ≡ Damaged };
 
-    fn from(_value: TreeFault) -> ReplayFault {
-        ReplayFault::Damaged
+    fn from(value: TreeFault) -> ReplayFault {
+        match value {
+            TreeFault::Unreached | TreeFault::Namesakes => ReplayFault::Damaged,
+        }
     }
 }
