@@ -26,5 +26,8 @@ pub fn put_answer<F: ReadFlash>(flash: &F, out: &mut [u8; LISTING_BYTES]) -> usi
     ensures buffer { Answers (F.ReadFlash.chip flash.now) out.old result out.new }
 {
     let mut work = [0xff; PAGE_BYTES];
-    list(flash, &mut work, out).unwrap_or_else(|fault| put_refusal(out, fault.number()))
+    match list(flash, &mut work, out) {
+        Ok(end) => end,
+        Err(fault) => put_refusal(out, fault.number()),
+    }
 }
