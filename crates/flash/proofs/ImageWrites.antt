@@ -1,5 +1,5 @@
 -- A program or an erase of an image, from what its steps left to what its contract says.
-use Rattle.std.proofs.Common.{◌≡◌, ℕ, ◌+◌, ◌-◌, ◌*◌, ◌<◌, ◌≤◌, Bool, true, false, cond, ltb, List, ◌++◌, length, take, drop, replicate, Ok, Err, Result, sym, refl, ap, ◌∙◌, subst, arith, lt-ltb}
+use Rattle.std.proofs.Common.{◌≡◌, ℕ, ◌+◌, ◌-◌, ◌*◌, ◌<◌, ◌≤◌, Bool, true, false, cond, ltb, List, ◌++◌, length, take, drop, replicate, Ok, Err, sym, refl, ap, ◌∙◌, subst, arith, length-drop, length-take, lt-ltb}
 use borrow.Rule.Slice.PartMut.{put_mid}
 use lib.Seq.{paste}
 use Rattle.std.proofs.lemmas.List.{take-take, length-replicate, length-take-le, take-replicate}
@@ -17,12 +17,7 @@ use Rattle.flash.proofs.Clearing.{take_cleared}
 use Rattle.flash.proofs.Fusing.{reach_within, reach_whole, power_left}
 use Rattle.flash.proofs.Images.{final_long, image_programmed, image_erased, image_torn}
 use Rattle.flash.proofs.Pasting.{drop_paste}
-
-abbrev Answer : Type 0
-Answer = Result (Unit {0}) FlashFault
-
-abbrev image : List ℕ → Bool → Fuse → Image
-image xs on fuse = record { bytes = xs; on = on; fuse = fuse }
+use Rattle.flash.proofs.Refusals.{Answer, image}
 
 -- the part that a step wrote is the final part as far as it reaches
 pub written : (xs s part : List ℕ) (at n : ℕ) → part ≡ take n s → n ≤ length s → put_mid at ((at + n) - at) xs part ≡ paste xs at s n
@@ -81,11 +76,11 @@ module _ (xs w : List ℕ) (p : ℕ) (on : Bool) (fuse : Fuse) (h : p < 16 * ima
       }
 
   -- the whole contract, from what the steps left
-  pub program_ends : (ys part : List ℕ) (at n : ℕ) (off : Bool) (burnt : Fuse) (r : Answer) → at ≡ 256 * p → n ≡ reach_of fuse 256
+  pub program_ends : {ys part : List ℕ} (at : ℕ) {n : ℕ} {off : Bool} {burnt : Fuse} {r : Answer} → at ≡ 256 * p → n ≡ reach_of fuse 256
       → part ≡ cleared (take ((at + n) - at) (drop at xs)) w → ys ≡ put_mid at ((at + n) - at) xs part
       → r ≡ cond (blows_at fuse) (Err (Program p)) (Ok tt) → off ≡ cond (blows_at fuse) false on → burnt ≡ burnt_of fuse
-      → Programs (image_chip xs on) p w r (image_chip ys off) × ProgramsImage (image xs on fuse) p w r (image ys off burnt)
-  program_ends ys part at n off burnt r ea en epart eys er eoff eburnt =
+      → record { says : Programs (image_chip xs on) p w r (image_chip ys off); exact : ProgramsImage (image xs on fuse) p w r (image ys off burnt) }
+  program_ends {ys} {part} at {n} {off} {burnt} {r} ea en epart eys er eoff eburnt =
       let here : part ≡ take (reach_of fuse 256) final =
       epart ∙ ap (λ i. cleared (take i (drop at xs)) w) (let e : (at + n) - at ≡ reach_of fuse 256 = omega arith in e) ∙ ap (λ i. cleared (take (reach_of fuse 256) (drop i xs)) w) ea
       ∙ sym (take_cleared (reach_of fuse 256) (take 256 (drop (256 * p) xs)) w ∙ ap (λ zs. cleared zs w) (take-take (reach_of fuse 256) 256 (drop (256 * p) xs) (reach_within fuse 256))) in
@@ -93,10 +88,10 @@ module _ (xs w : List ℕ) (p : ℕ) (on : Bool) (fuse : Fuse) (h : p < 16 * ima
       eys ∙ ap (λ i. put_mid i ((i + n) - i) xs part) ea ∙ ap (λ i. put_mid (256 * p) ((256 * p + i) - 256 * p) xs part) en
       ∙ written xs final part (256 * p) (reach_of fuse 256) here (omega (arith, reach_within fuse 256, long)) in
       let Whole : Answer → List ℕ → Bool → Fuse → Type 0 = λ r ys off burnt.
-      Programs (image_chip xs on) p w r (image_chip ys off) × ProgramsImage (image xs on fuse) p w r (image ys off burnt) in
+      record { says : Programs (image_chip xs on) p w r (image_chip ys off); exact : ProgramsImage (image xs on fuse) p w r (image ys off burnt) } in
       subst (λ r. Whole r ys off burnt) (sym er) (subst (λ ys. Whole (cond (blows_at fuse) (Err (Program p)) (Ok tt)) ys off burnt) (sym all)
       (subst (λ off. Whole (cond (blows_at fuse) (Err (Program p)) (Ok tt)) left off burnt) (sym eoff)
-      (subst (λ burnt. Whole (cond (blows_at fuse) (Err (Program p)) (Ok tt)) left (cond (blows_at fuse) false on) burnt) (sym eburnt) (says (blows_at fuse) refl, exact))))
+      (subst (λ burnt. Whole (cond (blows_at fuse) (Err (Program p)) (Ok tt)) left (cond (blows_at fuse) false on) burnt) (sym eburnt) record { says = says (blows_at fuse) refl; exact = exact })))
 
 module _ (xs : List ℕ) (b : ℕ) (on : Bool) (fuse : Fuse) (h : b < image_blocks xs) (up : on ≡ true) where
   abbrev ones : List ℕ
@@ -129,18 +124,22 @@ module _ (xs : List ℕ) (b : ℕ) (on : Bool) (fuse : Fuse) (h : b < image_bloc
             (4096 * image_blocks xs) (omega (arith, reach_within fuse 4096));
       }
 
-  pub erase_ends : (ys part : List ℕ) (at n : ℕ) (off : Bool) (burnt : Fuse) (r : Answer) → at ≡ 4096 * b → n ≡ reach_of fuse 4096
-      → part ≡ replicate n 255 → ys ≡ put_mid at ((at + n) - at) xs part
+  -- the block has the bytes that the step reaches
+  reached : (at n : ℕ) → at ≡ 4096 * b → n ≡ reach_of fuse 4096 → length (take ((at + n) - at) (drop at xs)) ≡ n
+  reached at n ea en = simp (length-take, length-drop) (omega (arith, reach_within fuse 4096))
+
+  pub erase_ends : {ys part : List ℕ} (at : ℕ) {n : ℕ} {off : Bool} {burnt : Fuse} {r : Answer} → at ≡ 4096 * b → n ≡ reach_of fuse 4096
+      → part ≡ replicate (length (take ((at + n) - at) (drop at xs))) 255 → ys ≡ put_mid at ((at + n) - at) xs part
       → r ≡ cond (blows_at fuse) (Err (Erase b)) (Ok tt) → off ≡ cond (blows_at fuse) false on → burnt ≡ burnt_of fuse
-      → Erases (image_chip xs on) b r (image_chip ys off) × ErasesImage (image xs on fuse) b r (image ys off burnt)
-  erase_ends ys part at n off burnt r ea en epart eys er eoff eburnt =
+      → record { says : Erases (image_chip xs on) b r (image_chip ys off); exact : ErasesImage (image xs on fuse) b r (image ys off burnt) }
+  erase_ends {ys} {part} at {n} {off} {burnt} {r} ea en epart eys er eoff eburnt =
       let here : part ≡ take (reach_of fuse 4096) ones =
-      epart ∙ ap (λ i. replicate i 255) en ∙ sym (take-replicate (reach_of fuse 4096) 4096 255 (reach_within fuse 4096)) in
+      epart ∙ ap (λ i. replicate i 255) (reached at n ea en ∙ en) ∙ sym (take-replicate (reach_of fuse 4096) 4096 255 (reach_within fuse 4096)) in
       let all : ys ≡ wiped =
       eys ∙ ap (λ i. put_mid i ((i + n) - i) xs part) ea ∙ ap (λ i. put_mid (4096 * b) ((4096 * b + i) - 4096 * b) xs part) en
       ∙ written xs ones part (4096 * b) (reach_of fuse 4096) here (omega (arith, reach_within fuse 4096, ones_long)) in
       let Whole : Answer → List ℕ → Bool → Fuse → Type 0 = λ r ys off burnt.
-      Erases (image_chip xs on) b r (image_chip ys off) × ErasesImage (image xs on fuse) b r (image ys off burnt) in
+      record { says : Erases (image_chip xs on) b r (image_chip ys off); exact : ErasesImage (image xs on fuse) b r (image ys off burnt) } in
       subst (λ r. Whole r ys off burnt) (sym er) (subst (λ ys. Whole (cond (blows_at fuse) (Err (Erase b)) (Ok tt)) ys off burnt) (sym all)
       (subst (λ off. Whole (cond (blows_at fuse) (Err (Erase b)) (Ok tt)) wiped off burnt) (sym eoff)
-      (subst (λ burnt. Whole (cond (blows_at fuse) (Err (Erase b)) (Ok tt)) wiped (cond (blows_at fuse) false on) burnt) (sym eburnt) (erase_says (blows_at fuse) refl, erase_exact))))
+      (subst (λ burnt. Whole (cond (blows_at fuse) (Err (Erase b)) (Ok tt)) wiped (cond (blows_at fuse) false on) burnt) (sym eburnt) record { says = erase_says (blows_at fuse) refl; exact = erase_exact })))

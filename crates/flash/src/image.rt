@@ -8,7 +8,7 @@ ghost use Rattle.flash.specs.ImageCalls.{ErasesImage, ProgramsImage, view};
 ghost use Rattle.flash.specs.Says.{Erases, Programs, Reads};
 
 use crate::bytes::{
-    IMAGE_BLOCK_BYTES, IMAGE_PAGES_PER_BLOCK, blocks_in, clear_bits, copy_page_out, set_bits,
+    IMAGE_BLOCK_BYTES, IMAGE_PAGES_PER_BLOCK, blocks_in, clear_bits, read_page, set_bits,
 };
 use crate::fault::{FlashFault, admit};
 use crate::fuse::Fuse;
@@ -38,7 +38,7 @@ impl<'a> ImageFlash<'a> {
     pub fn bytes(&self) -> &[u8]
         ensures { result.now ≡ self.now.bytes.now }
     {
-        &*self.bytes
+        self.bytes
     }
 
     pub fn set_fuse(&mut self, fuse: Fuse)
@@ -59,13 +59,14 @@ impl<'a> ImageFlash<'a> {
         self.fuse = self.fuse.burnt();
         if blows {
             self.on = false;
-            return Err(cut);
+            Err(cut)
+        } else {
+            Ok(())
         }
-        Ok(())
     }
 }
 
-impl<'a> ReadFlash for ImageFlash<'a> {
+impl ReadFlash for ImageFlash<'_> {
     const PAGES_PER_BLOCK: usize = IMAGE_PAGES_PER_BLOCK;
 
     ghost per_block = { 16 };
@@ -91,15 +92,13 @@ impl<'a> ReadFlash for ImageFlash<'a> {
     }
 
     fn read(&self, page: usize, out: &mut [u8]) -> Result<(), FlashFault> {
-        admit(self.on, page < Self::PAGES_PER_BLOCK * self.blocks())?;
-        copy_page_out(self.bytes, page, out);
-        Ok(())
+        read_page(self.bytes, self.on, page, out)
     }
 }
 
-impl<'a> Flash for ImageFlash<'a> {
-    fn program(&mut self, page: usize, bytes: &[u8; 256]) -> Result<(), FlashFault>
-        ensures says { Programs (image_chip self.old.bytes.now self.old.on) page bytes.now result (image_chip self.new.bytes.now self.new.on) }
+impl Flash for ImageFlash<'_> {
+    fn program(&mut self, page: usize, bytes: &[u8; PAGE_BYTES]) -> Result<(), FlashFault>
+        ensures says { Programs (⟦<Self as ReadFlash>⟧.chip self.old) page bytes.now result (⟦<Self as ReadFlash>⟧.chip self.new) }
         ensures exact { ProgramsImage (view self.old) page bytes.now result (view self.new) }
     {
         admit(self.on, page < Self::PAGES_PER_BLOCK * self.blocks())?;
@@ -110,7 +109,7 @@ impl<'a> Flash for ImageFlash<'a> {
     }
 
     fn erase(&mut self, block: usize) -> Result<(), FlashFault>
-        ensures says { Erases (image_chip self.old.bytes.now self.old.on) block result (image_chip self.new.bytes.now self.new.on) }
+        ensures says { Erases (⟦<Self as ReadFlash>⟧.chip self.old) block result (⟦<Self as ReadFlash>⟧.chip self.new) }
         ensures exact { ErasesImage (view self.old) block result (view self.new) }
     {
         admit(self.on, block < self.blocks())?;
@@ -121,7 +120,7 @@ impl<'a> Flash for ImageFlash<'a> {
     }
 
     fn power_up(&mut self)
-        ensures says { image_chip self.new.bytes.now self.new.on ≡ powered (image_chip self.old.bytes.now self.old.on) true }
+        ensures says { ⟦<Self as ReadFlash>⟧.chip self.new ≡ powered (⟦<Self as ReadFlash>⟧.chip self.old) true }
         ensures same { (self.new.bytes.now ≡ self.old.bytes.now) × (self.new.fuse ≡ self.old.fuse) }
     {
         self.on = true;
