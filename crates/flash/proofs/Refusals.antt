@@ -93,33 +93,28 @@ module _ (xs : List ℕ) (on : Bool) (p n : ℕ) (x : FlashFault) (r : Answer) (
             (erase_image_refused (image xs on fuse) p x (subst (λ i. Admits on (ltb p i) (Err x)) e admits));
       }
 
+-- with power on, only a place past the end is refused
+past_end : {on within : Bool} (e : FlashFault) → Admits on within (Err e) → on ≡ true → within ≡ false
+past_end {on} Off off up = absurd (both_ways on off up)
+past_end Range x up = x.1
+past_end (Program q) x up = absurd x
+past_end (Erase q) x up = absurd x
+
 -- a joined flash that refuses leaves both
 pub program_one_refused : (a b : Chip) (p : ℕ) (w : List ℕ) (within : Bool) (e : FlashFault) → length a.pages ≤ length (joined a b).pages → (within ≡ false → length (joined a b).pages ≤ p)
     → Admits (joined a b).on within (Err e) → ProgramsOne a b p w (Err e) a b
 program_one_refused a b p w within e fits past admits =
     record {
-      first = λ up h. no_call e admits up (λ g. absurd (omega arith));
-      second = λ up _ h. no_call e admits up (λ g. absurd (omega arith));
+      first = λ up h. let g = past (past_end e admits up) in absurd (omega arith);
+      second = λ up _ h. let g = past (past_end e admits up) in absurd (omega arith);
       refused = λ _. (refl, refl);
     }
-  where
-    no_call : {X : Type 0} (e : FlashFault) → Admits (joined a b).on within (Err e) → (joined a b).on ≡ true → (length (joined a b).pages ≤ p → X) → X
-    no_call Off off up k = absurd (both_ways (joined a b).on off up)
-    no_call Range x up k = k (past x.1)
-    no_call (Program q) x up k = absurd x
-    no_call (Erase q) x up k = absurd x
 
 pub erase_one_refused : (a b : Chip) (n : ℕ) (within : Bool) (e : FlashFault) → a.blocks ≤ joined_blocks a b → (within ≡ false → joined_blocks a b ≤ n)
     → Admits (joined a b).on within (Err e) → ErasesOne a b n (Err e) a b
 erase_one_refused a b n within e fits past admits =
     record {
-      first = λ up h. no_call e admits up (λ g. absurd (omega arith));
-      second = λ up _ h. no_call e admits up (λ g. absurd (omega arith));
+      first = λ up h. let g = past (past_end e admits up) in absurd (omega arith);
+      second = λ up _ h. let g = past (past_end e admits up) in absurd (omega arith);
       refused = λ _. (refl, refl);
     }
-  where
-    no_call : {X : Type 0} (e : FlashFault) → Admits (joined a b).on within (Err e) → (joined a b).on ≡ true → (joined_blocks a b ≤ n → X) → X
-    no_call Off off up k = absurd (both_ways (joined a b).on off up)
-    no_call Range x up k = k (past x.1)
-    no_call (Program q) x up k = absurd x
-    no_call (Erase q) x up k = absurd x

@@ -1,5 +1,5 @@
 // Bytes in memory as pages and blocks, for the image and the dump.
-ghost use Rattle.std.specs.Prelude.{◌≡◌, ◌+◌, ◌*◌, ◌<◌, ◌≤◌, length, take, drop, replicate};
+ghost use Rattle.std.specs.Prelude.{◌≡◌, ◌+◌, ◌*◌, ◌≤◌, length, take, drop, replicate};
 ghost use Rattle.flash.specs.Chip.{cleared, filled};
 ghost use Rattle.flash.specs.Image.{image_blocks, image_chip, octets};
 ghost use Rattle.flash.specs.Says.{Reads};

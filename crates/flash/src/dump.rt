@@ -1,5 +1,5 @@
 // Bytes held for reading, as a flash that is only read. Its power is always on.
-ghost use Rattle.std.specs.Prelude.{◌≡◌, true, length, refl};
+ghost use Rattle.std.specs.Prelude.{◌≡◌, true, refl};
 ghost use Rattle.flash.specs.Cuts.{image_formed};
 ghost use Rattle.flash.specs.Image.{image_chip};
 

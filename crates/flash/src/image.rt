@@ -1,11 +1,11 @@
 // A flash in the caller's bytes, whose power goes where its fuse says.
-ghost use Rattle.std.specs.Prelude.{◌≡◌, ◌≤◌, Bool, true, false, not, length, if◌then◌else◌, Ok, Err, refl};
-ghost use Rattle.flash.specs.Chip.{cleared, powered};
+ghost use Rattle.std.specs.Prelude.{◌≡◌, true, false, if◌then◌else◌, Ok, Err, refl};
+ghost use Rattle.flash.specs.Chip.{powered};
 ghost use Rattle.flash.specs.Cuts.{image_formed};
 ghost use Rattle.flash.specs.Fuses.{blows_at, burnt_of};
 ghost use Rattle.flash.specs.Image.{image_chip};
 ghost use Rattle.flash.specs.ImageCalls.{ErasesImage, ProgramsImage, view};
-ghost use Rattle.flash.specs.Says.{Erases, Programs, Reads};
+ghost use Rattle.flash.specs.Says.{Erases, Programs};
 
 use crate::bytes::{
     IMAGE_BLOCK_BYTES, IMAGE_PAGES_PER_BLOCK, blocks_in, clear_bits, read_page, set_bits,
