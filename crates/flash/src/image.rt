@@ -15,6 +15,7 @@ use crate::fuse::Fuse;
 use crate::traits::{Flash, PAGE_BYTES, ReadFlash};
 
 /// One block to each 4,096 bytes, up to 1,000; the bytes past the last block are never touched.
+/// Each call keeps the reference that was lent (`lent`), so the lender knows what its bytes hold once the flash is gone.
 #[derive(Drop)]
 pub struct ImageFlash<'a> {
     bytes: &'a mut [u8],
@@ -27,6 +28,7 @@ impl<'a> ImageFlash<'a> {
         ensures bytes { result.bytes.now ≡ bytes.old }
         ensures power { result.on ≡ true }
         ensures fuse { result.fuse ≡ fuse }
+        ensures lent { result.bytes.ghost_name ≡ bytes.entry.ghost_name }
     {
         ImageFlash {
             bytes,
@@ -44,6 +46,7 @@ impl<'a> ImageFlash<'a> {
     pub fn set_fuse(&mut self, fuse: Fuse)
         ensures fuse { self.new.fuse ≡ fuse }
         ensures same { (self.new.bytes.now ≡ self.old.bytes.now) × (self.new.on ≡ self.old.on) }
+        ensures lent { self.new.bytes.ghost_name ≡ self.old.bytes.ghost_name }
     {
         self.fuse = fuse;
     }
@@ -54,6 +57,7 @@ impl<'a> ImageFlash<'a> {
         ensures power { self.new.on ≡ (if blows_at self.old.fuse then false else self.old.on) }
         ensures fuse { self.new.fuse ≡ burnt_of self.old.fuse }
         ensures bytes { self.new.bytes.now ≡ self.old.bytes.now }
+        ensures lent { self.new.bytes.ghost_name ≡ self.old.bytes.ghost_name }
     {
         let blows = self.fuse.blows();
         self.fuse = self.fuse.burnt();
@@ -100,6 +104,7 @@ impl Flash for ImageFlash<'_> {
     fn program(&mut self, page: usize, bytes: &[u8; PAGE_BYTES]) -> Result<(), FlashFault>
         ensures says { Programs (⟦<Self as ReadFlash>⟧.chip self.old) page bytes.now result (⟦<Self as ReadFlash>⟧.chip self.new) }
         ensures exact { ProgramsImage (view self.old) page bytes.now result (view self.new) }
+        ensures lent { self.new.bytes.ghost_name ≡ self.old.bytes.ghost_name }
     {
         admit(self.on, page < Self::PAGES_PER_BLOCK * self.blocks())?;
         let at = page * PAGE_BYTES;
@@ -111,6 +116,7 @@ impl Flash for ImageFlash<'_> {
     fn erase(&mut self, block: usize) -> Result<(), FlashFault>
         ensures says { Erases (⟦<Self as ReadFlash>⟧.chip self.old) block result (⟦<Self as ReadFlash>⟧.chip self.new) }
         ensures exact { ErasesImage (view self.old) block result (view self.new) }
+        ensures lent { self.new.bytes.ghost_name ≡ self.old.bytes.ghost_name }
     {
         admit(self.on, block < self.blocks())?;
         let at = block * IMAGE_BLOCK_BYTES;
@@ -122,6 +128,7 @@ impl Flash for ImageFlash<'_> {
     fn power_up(&mut self)
         ensures says { ⟦<Self as ReadFlash>⟧.chip self.new ≡ powered (⟦<Self as ReadFlash>⟧.chip self.old) true }
         ensures same { (self.new.bytes.now ≡ self.old.bytes.now) × (self.new.fuse ≡ self.old.fuse) }
+        ensures lent { self.new.bytes.ghost_name ≡ self.old.bytes.ghost_name }
     {
         self.on = true;
     }
