@@ -2,7 +2,7 @@
 ghost use Rattle.std.specs.Prelude.{◌≡◌};
 ghost use Rattle.flash.specs.Fuses.{blows_at, burnt_of, reach_of};
 
-// An enum of its own and not an `Option`: what a fuse does, set or not, are its methods.
+// Not an `Option`: what a fuse does in either state are its methods, and an `Option` can have none of ours.
 #[derive(Clone, Copy, PartialEq, Eq, Debug)]
 pub enum Fuse {
     /// Power never goes.
