@@ -47,7 +47,7 @@ pub(crate) fn clear_bits(cells: &mut [u8], given: &[u8; PAGE_BYTES])
     requires { length cells.old ≤ 256 }
     ensures { cells.new ≡ cleared cells.old given.now }
 {
-    // No `zip`: a proof knows what a loop over `iter_mut` wrote, and nothing of it under an adapter.
+    // No `zip`: a proof knows what a loop over `iter_mut` wrote, also an enumerated one, and nothing of a zipped one.
     for (k, cell) in cells.iter_mut().enumerate() {
         *cell &= given[k];
     }
