@@ -28,6 +28,7 @@ impl Bits {
     }
 
     // The number in the field, most significant bit first.
+    #[tactic(auto, using(crate::proofs::BitLaws::field_none))]
     pub(crate) fn read(self, page: &[u8; PAGE_BYTES]) -> u32
         requires { (self.at + self.width ≤ 2048) × (self.width ≤ 32) }
         ensures value { result ≡ field page.now self.at self.width }

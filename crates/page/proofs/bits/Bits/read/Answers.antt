@@ -1,35 +1,19 @@
-use Rattle.std.proofs.Common.{◌≡◌, suc, ◌+◌, ◌^◌, ◌<◌, ◌≤◌, sym, ap, add-one, arith, pow_mono}
-use Rattle.page.specs.Bits.{bit, field}
-use Rattle.page.proofs.BitLaws.{bit_below, field_more, field_none}
+use Rattle.std.proofs.Common.{◌≡◌, ◌+◌, ◌^◌, suc, ap, add-one, arith}
+use Rattle.page.proofs.BitLaws.{bit_below, field_more, room_for_bit}
 use Rattle.page.proofs.bits.Bits.read.Goals as goal
 
 pub overflow_mul-value : goal.overflow_mul-value
-overflow_mul-value c =
-    let i = c.loop-i.i in
-    let small : c.loop-i.value < 2 ^ i = c.loop-i.invariant.1 in
-    let p : 2 ^ suc i ≤ 2 ^ 32 = pow_mono {i = suc i} {j = 32} (omega arith) in
-    omega arith
+overflow_mul-value c = omega (arith, room_for_bit c.loop-i.value c.loop-i.i c.loop-i.invariant.1 (omega arith))
 
 pub overflow_add-value : goal.overflow_add-value
 overflow_add-value c =
-    let i = c.loop-i.i in
-    let small : c.loop-i.value < 2 ^ i = c.loop-i.invariant.1 in
-    let p : 2 ^ suc i ≤ 2 ^ 32 = pow_mono {i = suc i} {j = 32} (omega arith) in
-    let b = bit_below c.args.page.now (c.args.self.at + i) in
-    omega (arith, c.bit.ensures)
+    omega (arith, c.bit.ensures, bit_below c.args.page.now (c.args.self.at + c.loop-i.i), room_for_bit c.loop-i.value c.loop-i.i c.loop-i.invariant.1 (omega arith))
 
 pub loop-i-preserved : goal.loop-i-preserved
 loop-i-preserved c =
     let i = c.loop-i.i in
     let page = c.args.page.now in
     let from = c.args.self.at in
-    let value : c.loop-i.value ≡ field page from i = c.loop-i.invariant.0 in
-    let small : c.loop-i.value < 2 ^ i = c.loop-i.invariant.1 in
-    let more = field_more page from i in
-    let read : c.bit.result ≡ bit page (from + i) = c.bit.ensures in
-    let b = bit_below page (from + i) in
     let up : 2 ^ (i + 1) ≡ 2 ^ suc i = ap (λ k. 2 ^ k) (add-one i) in
-    (omega arith, omega arith)
-
-pub loop-i-init : goal.loop-i-init
-loop-i-init c = (sym (field_none c.args.page.now c.args.self.at), omega arith)
+    let b = bit_below page (from + i) in
+    (omega (arith, field_more page from i, c.bit.ensures), omega (arith, c.bit.ensures))
