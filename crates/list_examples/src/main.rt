@@ -2,7 +2,6 @@
 
 #![tactic(auto)]
 
-use anyhow::anyhow;
 use flash::{Fuse, ImageFlash};
 use images::{
     Placed, at, bad_names, below_the_floor, chunk_at_the_end, chunk_of_a_directory,
@@ -21,9 +20,7 @@ const BLOCK_BYTES: usize = 4096;
 fn show(rt: &HostRuntime, name: &str, blocks: usize, pages: &[Placed]) -> anyhow::Result<()> {
     let mut image = vec![in rt.alloc(); 0xffu8; blocks.saturating_mul(BLOCK_BYTES)]?;
     let mut flash = ImageFlash::new(&mut image, Fuse::Intact);
-    let Ok(()) = write(&mut flash, pages) else {
-        return Err(anyhow!("an example that cannot be written"));
-    };
+    write(&mut flash, pages)?;
     let mut text = [0; LISTING_BYTES];
     let end = put_answer(&flash, &mut text);
     println!(rt; "# {name}")?;
