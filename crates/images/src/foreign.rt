@@ -1,5 +1,5 @@
 // Chips that no store of this make would leave, and that read right all the same.
-ghost use Rattle.std.specs.Prelude.{◌<◌};
+ghost use Rattle.std.specs.Prelude.{◌+◌, ◌^◌, ◌<◌};
 
 use crate::placed::{Placed, at};
 use crate::stored::{ARC, CAL, ROOT};
@@ -108,7 +108,7 @@ pub fn unlisted_bits_at_0() -> [Placed; 7] {
 
 // One of a chain of directories, each within the one before; the first stands in the root.
 pub(crate) fn nested(depth: usize, name: &[u8]) -> Placed
-    requires { depth < 9 }
+    requires { depth + 1 < 2 ^ 32 }
 {
     let within = depth as u32;
     at(depth, within + 1).directory(within + 1, within, name)

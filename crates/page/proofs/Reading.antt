@@ -15,6 +15,7 @@ use Rattle.page.specs.Fields.{header_at, name_at, kind_at, entry_at, chunk_at}
 use Rattle.page.specs.Names.{padded, name_text}
 use Rattle.page.proofs.BitLaws.{field_in, field_split, field_byte, field_32}
 use Rattle.page.proofs.Packing.{unpacked}
+use Rattle.page.proofs.Padding.{same_names}
 use Rattle.page.proofs.Ranges.{HeaderRanges, NameRanges, EntryRanges, directory_bit_range}
 
 -- a byte of a part whose bytes are known
@@ -73,7 +74,7 @@ name_read q n rest r e d =
     let part : take (min 24 (field q 166 5)) (drop 22 q) ≡ t =
     ap (λ k. take k (drop 22 q)) few ∙ ap (take n.len) d ∙ take_at t rest n.len (name_long n r)
     in
-    ap₂ (λ (k : ℕ) (bs : List ℕ). record { len = k; bytes = bs }) e (ap padded part ∙ sym ((bytes_eq-Decides n.bytes (padded t)).0 r.zeros))
+    same_names (name_at q) n e (ap padded part ∙ sym ((bytes_eq-Decides n.bytes (padded t)).0 r.zeros))
 
 kind_back : (k : EntryKind) → cond (eqb (directory_bit k) 1) Directory File ≡ k
 kind_back File = refl

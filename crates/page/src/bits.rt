@@ -34,6 +34,7 @@ impl Bits {
         ensures value { result ≡ field page.now self.at self.width }
         ensures bound { result < 2 ^ self.width }
     {
+        // A loop: in a `fold` it is not known that the value has room for one more bit.
         let mut value = 0;
         for i in 0..self.width {
             value = 2 * value + bit(page, self.at + i) as u32;

@@ -26,7 +26,7 @@ fn put(out: &mut [u8; PAGE_BYTES], at: usize, bytes: &[u8])
     out[at..at + bytes.len()].copy_from_slice(bytes);
 }
 
-// Kind, index and size in one byte; its last bit is not used.
+// Kind, index and size in one byte, where `layout` has them; its last bit is not used.
 fn lead(kind: Kind, header: &Header) -> u8
     requires { (header.now.index < 4) × (1 ≤ header.now.size) × (header.now.size ≤ 4) }
     ensures { result ≡ lead_of (number_of kind) header.now }
@@ -55,7 +55,8 @@ impl EntryKind {
     }
 }
 
-// What an entry is, its length and its name's length in three bytes; the last five bits are not used.
+// What an entry is, its length and its name's length in three bytes, where `layout` has them; the last
+// five bits are not used.
 fn packed(entry: &Entry) -> u32
     requires { (entry.now.length ≤ 7168) × (entry.now.name.len ≤ 24) }
     ensures { result ≡ packed_of entry.now }

@@ -5,7 +5,7 @@ ghost use Rattle.page.specs.Kinds.{kind_of, number_of};
 
 use crate::fields::{Content, PageFault};
 
-/// What a page says of its file.
+/// What a page says of its file, without its fields.
 #[derive(Clone, Copy, PartialEq, Eq, Debug)]
 pub enum Kind {
     Note = 0,
@@ -15,6 +15,7 @@ pub enum Kind {
 }
 
 impl Kind {
+    // As it stands on the page.
     pub(crate) fn number(self) -> u8
         ensures value { result ≡ number_of self }
         ensures bound { result < 4 }

@@ -4,7 +4,8 @@ ghost use Rattle.page.specs.Names.{allowed, dots, is_padded, name_byte, name_byt
 
 use crate::layout::NAME_BYTES;
 
-/// A name, in a value of one size. The places past its length hold 0, so equal names are equal values.
+/// A name, in a value of one size, since there is no heap. The places past its length hold 0, so equal names
+/// are equal values.
 #[derive(Clone, Copy, PartialEq, Eq, Debug)]
 pub struct Name {
     pub(crate) len: u8,
