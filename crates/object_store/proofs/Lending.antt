@@ -1,7 +1,7 @@
 -- A batch on a table in lent memory: what was judged, and what it leaves.
-use Rattle.std.proofs.Common.{◌≡◌, ℕ, ◌-◌, ◌≤◌, min, Bool, true, false, cond, ltb, ◌⊎◌, List, map, length, take, Ok, Err, Result, sym, refl, ap, ◌∙◌, subst, ap₂, inl, inr, arith}
+use Rattle.std.proofs.Common.{◌≡◌, ℕ, ◌-◌, ◌≤◌, min, Bool, true, false, cond, eqb, ltb, ◌⊎◌, List, map, length, take, Ok, Err, Result, sym, refl, ap, ◌∙◌, subst, ap₂, inl, inr, arith}
 use lib.ListN.{length-map}
-use Rattle.std.proofs.lemmas.Bool.{eq-eqb, ne_eqb}
+use Rattle.std.proofs.lemmas.Bool.{eq-eqb, eqb-true}
 use Rattle.object_store.specs.declared.change.Change.{Change}
 use Rattle.object_store.specs.declared.fault.ObjectFault.{ObjectFault}
 use Rattle.object_store.specs.declared.fault.ObjectFault.TheVariants.{WorkPage, Unfit, Full, Spent}
@@ -9,23 +9,21 @@ use Rattle.object_store.specs.declared.kept.Kept.{Kept}
 use Rattle.object_store.specs.Fit.{Judges, fit, verdict}
 use Rattle.object_store.specs.Lent.{gap, shelf_of, table_shelf, TableWhole, table_verdict}
 use Rattle.object_store.specs.Objects.{key_of, keys_of, after_batch}
-use Rattle.object_store.specs.Says.{Batches, answer}
+use Rattle.object_store.specs.Says.{Batches, answer, paged}
 use Rattle.object_store.specs.Shelf.{Sound}
 use Rattle.object_store.proofs.Keeping.{rising_after, fit_after, sound_of}
 use Rattle.object_store.proofs.Verdicts.{Passing, passing}
 
 module _ (places : List Kept) (len : ℕ) (cs : List Change) where
   -- the part of the table that is lent is the map
-  pub judged : TableWhole places len → (limit unused : ℕ) → limit ≡ min (length places) 208 → unused ≡ gap 1 (keys_of (take (len - 0) places)) → (r : Result (Unit {0}) ObjectFault)
-      → Judges (map key_of (take (len - 0) places)) limit unused false cs r → table_verdict places len cs ≡ r
+  pub judged : TableWhole places len → (limit unused : ℕ) → limit ≡ min (length places) 208 → unused ≡ gap 1 (keys_of (take len places)) → (r : Result (Unit {0}) ObjectFault)
+      → Judges (map key_of (take len places)) limit unused false cs r → table_verdict places len cs ≡ r
   judged whole limit unused l u r says =
-      let e : len - 0 ≡ len = omega arith in
       let good = whole.sound in
       let few = good.few refl in
       let long = length-map (take len places) key_of in
-      let verdicts : Judges (keys_of (take len places)) limit unused false cs r = subst (λ n. Judges (keys_of (take n places)) limit unused false cs r) e says in
-      ap₂ (λ (a b : ℕ). verdict (take len places) a b false cs) (sym l) (ap (λ n. gap 1 (keys_of (take n places))) (sym e) ∙ sym u)
-      ∙ sym (verdicts (omega (arith, few, long)) good.rising good.entries (take len places) refl)
+      ap₂ (λ (a b : ℕ). verdict (take len places) a b false cs) (sym l) (sym u)
+      ∙ sym (says (omega (arith, few, long)) good.rising good.entries (take len places) refl)
 
   module _ (whole : TableWhole places len) (ok : table_verdict places len cs ≡ Ok tt) where
     pub passed : Passing (take len places) (min (length places) 208) (gap 1 (keys_of (take len places))) cs
@@ -45,10 +43,24 @@ module _ (places : List Kept) (len : ℕ) (cs : List Change) where
               (fit_after (keys_of (take len places)) (gap 1 (keys_of (take len places))) cs (take len places) fits.each good.fitted) fits.entries passed.few);
         }
 
+-- the working page has 256 bytes where it is let through
+pub paged_through : (n : ℕ) (x : Unit {0}) → ◌≡◌ {A = Result (Unit {0}) ObjectFault} (Ok x) (paged n (Ok tt)) → n ≡ 256
+paged_through n x e = by (eqb n 256) refl e
+  where
+    by : (b : Bool) → eqb n 256 ≡ b → ◌≡◌ {A = Result (Unit {0}) ObjectFault} (Ok x) (cond b (Ok tt) (Err WorkPage)) → n ≡ 256
+    by true t e = eqb-true n 256 t
+    by false t e = absurd (let z : ◌≡◌ {A = ℕ} 0 1 = cc in omega arith)
+
 -- the answer to a batch with a working page of n bytes
 module _ (n : ℕ) (places : List Kept) (len : ℕ) (cs : List Change) where
-  pub page_refused : (n ≡ 256 → ⊥) → answer n (table_shelf places len) cs ≡ Err WorkPage
-  page_refused ne = ap (λ (b : Bool). cond b (table_verdict places len cs) (Err WorkPage)) (ne_eqb n 256 ne)
+  pub page_refused : (e : ObjectFault) (r : Result (Unit {0}) ObjectFault) → ◌≡◌ {A = Result (Unit {0}) ObjectFault} (Err e) (paged n (Ok tt)) → r ≡ Err e → Batches n (table_shelf places len) cs r (table_shelf places len)
+  page_refused e r stops is = by (eqb n 256) refl stops
+    where
+      by : (b : Bool) → eqb n 256 ≡ b → ◌≡◌ {A = Result (Unit {0}) ObjectFault} (Err e) (cond b (Ok tt) (Err WorkPage)) → Batches n (table_shelf places len) cs r (table_shelf places len)
+      by true t q = absurd (let z : ◌≡◌ {A = ℕ} 0 1 = cc in omega arith)
+      by false t q =
+          subst (λ (x : Result (Unit {0}) ObjectFault). Batches n (table_shelf places len) cs x (table_shelf places len)) (sym (is ∙ q))
+          (ap (λ (b : Bool). cond b (table_verdict places len cs) (Err WorkPage)) t, refl)
 
   pub answered : n ≡ 256 → answer n (table_shelf places len) cs ≡ table_verdict places len cs
   answered e = ap (λ (b : Bool). cond b (table_verdict places len cs) (Err WorkPage)) (eq-eqb n 256 e)

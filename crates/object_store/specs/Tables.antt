@@ -1,5 +1,6 @@
 -- Records that each stand for one key, kept by rising key.
 use Rattle.std.specs.Prelude.{ℕ, ◌+◌, ◌*◌, ◌≤◌, Bool, false, cond, ◌&&◌, ◌||◌, List, [], ◌∷◌, ◌==◌, nat_lt}
+use Rattle.std.specs.List.{list_any}
 use Rattle.object.specs.declared.key.Key.{Key}
 
 -- a key's place in the order: by file, and by part within a file
@@ -12,13 +13,11 @@ same_key j k = j.file == k.file && j.part == k.part
 
 -- the key is among these
 abbrev pub has_key : List Key → Key → Bool
-has_key [] k = false
-has_key (j ∷ js) k = same_key j k || has_key js k
+has_key ks k = list_any (λ j. same_key j k) ks
 
 -- one of these keys is of the file
 abbrev pub has_file : List Key → ℕ → Bool
-has_file [] f = false
-has_file (j ∷ js) f = j.file == f || has_file js f
+has_file ks f = list_any (λ k. k.file == f) ks
 
 -- the key of the entry of a key's file
 abbrev pub entry_of : Key → Key

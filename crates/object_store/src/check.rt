@@ -31,12 +31,7 @@ fn admits<R: OfKey>(table: &[R], unused: u32, change: &Change) -> bool
 fn each_fits<R: OfKey>(table: &[R], unused: u32, changes: &[Change]) -> bool
     ensures { result ≡ each_fits_spec (map R.Keyed.keyed table.now) unused changes.now }
 {
-    for change in changes {
-        if !admits(table, unused, change) {
-            return false;
-        }
-    }
-    true
+    changes.iter().all(|change| admits(table, unused, change))
 }
 
 // Whether the key that the change sets is removed again, or its file has an entry before or by the batch.
@@ -56,12 +51,7 @@ fn stands<R: OfKey>(table: &[R], changes: &[Change], change: &Change) -> bool
 fn all_stand<R: OfKey>(table: &[R], changes: &[Change]) -> bool
     ensures { result ≡ all_stand (map R.Keyed.keyed table.now) changes.now changes.now }
 {
-    for change in changes {
-        if !stands(table, changes, change) {
-            return false;
-        }
-    }
-    true
+    changes.iter().all(|change| stands(table, changes, change))
 }
 
 // How many keys of the table stay.
@@ -69,13 +59,11 @@ fn count_staying<R: OfKey>(table: &[R], changes: &[Change]) -> usize
     ensures within { result ≤ length table.now }
     ensures count { result ≡ staying changes.now (map R.Keyed.keyed table.now) }
 {
-    let mut count = 0;
-    for record in table {
-        if !removes(changes, record.key().file) {
-            count += 1;
-        }
-    }
-    count
+    table
+        .iter()
+        .map(|record| record.key())
+        .filter(|key| !removes(changes, key.file))
+        .count()
 }
 
 // Whether the change brings a key that stays and was neither in the table nor set by an earlier change.
@@ -95,13 +83,11 @@ fn count_brought<R: OfKey>(table: &[R], changes: &[Change]) -> usize
     ensures within { result ≤ length changes.now }
     ensures count { result ≡ brought (map R.Keyed.keyed table.now) changes.now [] changes.now }
 {
-    let mut count = 0;
-    for i in 0..changes.len() {
-        if brings(table, changes, &changes[0..i], &changes[i]) {
-            count += 1;
-        }
-    }
-    count
+    changes
+        .iter()
+        .enumerate()
+        .filter(|(i, change)| brings(table, changes, &changes[..*i], change))
+        .count()
 }
 
 // Whether the batch can be made of a map with these keys, whose chunks all have entries.

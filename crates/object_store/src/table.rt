@@ -35,10 +35,8 @@ pub(crate) fn has_key<R: OfKey>(table: &[R], key: &Key) -> bool
 pub(crate) fn has_file<R: OfKey>(table: &[R], file: u32) -> bool
     ensures { result ≡ has_file (map R.Keyed.keyed table.now) file }
 {
-    for record in table {
-        if record.key().file == file {
-            return true;
-        }
-    }
-    false
+    table
+        .iter()
+        .map(|record| record.key())
+        .any(|key| key.file == file)
 }

@@ -9,7 +9,7 @@ use crate::check::judge;
 use crate::fault::ObjectFault;
 use crate::kept::Kept;
 use crate::store::{KEY_LIMIT, ObjectStore};
-use flash::PAGE_BYTES;
+use crate::work::check_page;
 use lookup::find;
 use object::{Key, Object};
 
@@ -17,10 +17,7 @@ use object::{Key, Object};
 fn find_object(map: &[Kept], key: &Key) -> Option<Object>
     ensures { result ≡ found map.now key.now }
 {
-    match find(map, key) {
-        Some(i) => Some(map[i].object),
-        None => None,
-    }
+    find(map, key).map(|i| map[i].object)
 }
 
 // The lowest number that no key is of.
@@ -42,8 +39,8 @@ fn change_table(places: &mut [Kept], len: usize, changes: &[Change]) -> Result<u
     requires { TableWhole places.old len }
     ensures { ChangesTable places.old len changes.now result places.new }
 {
-    let map = &places[0..len];
     let limit = places.len().min(KEY_LIMIT);
+    let map = &places[..len];
     judge(map, limit, lowest_unused(map), false, changes)?;
     Ok(make(places, len, changes))
 }
@@ -80,11 +77,7 @@ impl<'a> ObjectStore for TableStore<'a> {
     }
 
     fn key(&self, index: usize) -> Result<Option<Key>, ObjectFault> {
-        if index < self.len {
-            Ok(Some(self.places[index].key))
-        } else {
-            Ok(None)
-        }
+        Ok(self.places[..self.len].get(index).map(|kept| kept.key))
     }
 
     fn limit(&self) -> Result<usize, ObjectFault> {
@@ -92,7 +85,7 @@ impl<'a> ObjectStore for TableStore<'a> {
     }
 
     fn unused(&self) -> Result<u32, ObjectFault> {
-        Ok(lowest_unused(&self.places[0..self.len]))
+        Ok(lowest_unused(&self.places[..self.len]))
     }
 
     fn is_spent(&self) -> Result<bool, ObjectFault> {
@@ -100,33 +93,23 @@ impl<'a> ObjectStore for TableStore<'a> {
     }
 
     fn get(&self, work: &mut [u8], key: &Key) -> Result<Option<Object>, ObjectFault> {
-        if work.len() != PAGE_BYTES {
-            return Err(ObjectFault::WorkPage);
-        }
-        Ok(find_object(&self.places[0..self.len], key))
+        check_page(work)?;
+        Ok(find_object(&self.places[..self.len], key))
     }
 
     fn batch(&mut self, work: &mut [u8], changes: &[Change]) -> Result<(), ObjectFault> {
-        if work.len() != PAGE_BYTES {
-            return Err(ObjectFault::WorkPage);
-        }
-        let len = self.len;
-        self.len = change_table(self.places, len, changes)?;
+        check_page(work)?;
+        self.len = change_table(self.places, self.len, changes)?;
         Ok(())
     }
 
     fn format(&mut self, work: &mut [u8]) -> Result<(), ObjectFault> {
-        if work.len() != PAGE_BYTES {
-            return Err(ObjectFault::WorkPage);
-        }
+        check_page(work)?;
         self.len = 0;
         Ok(())
     }
 
     fn mount(&mut self, work: &mut [u8]) -> Result<(), ObjectFault> {
-        if work.len() != PAGE_BYTES {
-            return Err(ObjectFault::WorkPage);
-        }
-        Ok(())
+        check_page(work)
     }
 }
