@@ -1,6 +1,6 @@
 // Tables of records that each stand for one key.
 ghost use Rattle.std.specs.Prelude.{◌≡◌, map};
-ghost use Rattle.object_store.specs.Tables.{has_file, has_key, same_key};
+ghost use Rattle.object_store.specs.Tables.{has_file, has_key};
 
 use crate::kept::Kept;
 use lookup::{Keyed, find};
@@ -16,12 +16,6 @@ impl OfKey for Kept {
     fn key(&self) -> Key {
         self.key
     }
-}
-
-pub(crate) fn same(a: &Key, b: &Key) -> bool
-    ensures { result ≡ same_key a.now b.now }
-{
-    a.file == b.file && a.part == b.part
 }
 
 // Whether one of the records stands for the key.
