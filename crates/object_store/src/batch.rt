@@ -36,7 +36,7 @@ fn spares(change: &Change, later: &[Change]) -> bool
     }
 }
 
-// Whether no key is set after its file's removal.
+// Whether no key is set after its file's removal. It goes as deep as there are changes: few, where a batch is judged.
 pub(crate) fn is_in_order(changes: &[Change]) -> bool
     ensures { result ≡ in_order changes.now }
 {

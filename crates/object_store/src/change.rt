@@ -20,7 +20,7 @@ fn may_hold(part: u8, object: &Object) -> bool
 {
     match object {
         Object::Entry(entry) => part == 0 && entry.fits(),
-        Object::Chunk(_) => 1 <= part && part <= CHUNK_LIMIT,
+        Object::Chunk(_) => (1..=CHUNK_LIMIT).contains(&part),
     }
 }
 
