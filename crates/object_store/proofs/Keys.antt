@@ -1,6 +1,6 @@
 -- Keys that are the same, and tables whose keys rise.
 use Rattle.std.proofs.Common.{◌≡◌, ℕ, ◌+◌, ◌*◌, ◌<◌, ◌≤◌, Bool, true, false, cond, ◌&&◌, ◌||◌, eqb, ltb, List, [], ◌∷◌, map, length, filter, sym, refl, ap, ◌∙◌, ap₂, inl, inr, arith}
-use Rattle.std.proofs.lemmas.Bool.{and_parts, eqb-true, eq-eqb, ltb-true, ltb-false, le-ltb, cases_Bool, cases_order}
+use Rattle.std.proofs.lemmas.Bool.{true≢false, and_parts, eqb-true, eq-eqb, ltb-true, ltb-false, le-ltb, cases_Bool, cases_order}
 use Rattle.object.specs.Rank.{key_rank}
 use Rattle.object.specs.declared.key.Key.{Key}
 use Rattle.object_store.specs.Tables.{same_key, has_key, put_in, RisingFrom}
@@ -70,12 +70,9 @@ module _ {R : Type 0} (key : R → Key) where
       by false false t e rest =
           let le = ltb-false (key_rank (key y)) (key_rank (key x)) t in
           let part : (key y).part ≤ 32 = h.1 in
-          let apart : key_rank (key y) ≡ key_rank (key x) → ⊥ = λ q. (let z : true ≡ false = sym (one_rank (key y) (key x) part p q) ∙ e in clash z) in
+          let apart : key_rank (key y) ≡ key_rank (key x) → ⊥ = λ q. true≢false (sym (one_rank (key y) (key x) part p q) ∙ e) in
           (l, p, (strictly (key_rank (key x)) (key_rank (key y)) le apart, h.1, h.2))
         where
-          clash : true ≡ false → ⊥
-          clash z = let n : ◌≡◌ {A = ℕ} 1 0 = ap (λ (b : Bool). cond b 1 0) z in omega arith
-
           strictly : (a b : ℕ) → a ≤ b → (b ≡ a → ⊥) → a + 1 ≤ b
           strictly a b le ne = omega arith
 

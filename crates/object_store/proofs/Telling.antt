@@ -1,6 +1,6 @@
 -- What is found once a map is changed, and that a map is no more than what is found in it.
 use Rattle.std.proofs.Common.{◌≡◌, ℕ, ◌+◌, ◌<◌, ◌≤◌, Bool, true, false, cond, not, eqb, ltb, [], ◌∷◌, Some, None, Option, sym, refl, ap, ◌∙◌, ap₂, inl, inr, arith}
-use Rattle.std.proofs.lemmas.Bool.{and_parts, ltb-true, cases_order}
+use Rattle.std.proofs.lemmas.Bool.{true≢false, and_parts, ltb-true, cases_order}
 use Rattle.object.specs.Rank.{key_rank}
 use Rattle.object.specs.declared.key.Key.{Key}
 use Rattle.object.specs.declared.value.Object.{Object}
@@ -15,9 +15,6 @@ use Rattle.object_store.proofs.Keys.{same_file, same_part, same_rank, same_with,
 use Rattle.object_store.proofs.Rooting.{has_after}
 use Rattle.object_store.proofs.Verdicts.{fitting}
 
-clash : {A : Type 0} → true ≡ false → A
-clash z = let n : ◌≡◌ {A = ℕ} 1 0 = ap (λ (b : Bool). cond b 1 0) z in absurd (omega arith)
-
 -- two tests that never hold together may be made in either order
 swap : (u t : Bool) (a b d : Option Object) → (u ≡ true → t ≡ true → ⊥) → cond u a (cond t b d) ≡ cond t b (cond u a d)
 swap true true a b d apart = absurd (apart refl refl)
@@ -27,7 +24,7 @@ swap false t a b d apart = refl
 -- the second of two tests that say the same is not needed
 once : (u t : Bool) (a b d : Option Object) → u ≡ t → cond t b d ≡ cond t b (cond u a d)
 once true true a b d e = refl
-once true false a b d e = clash e
+once true false a b d e = absurd (true≢false e)
 once false t a b d e = refl
 
 pub set_is_told : SetIsTold
@@ -57,7 +54,7 @@ removal_is_told (o ∷ os) f j = by (eqb f o.key.file) refl (removal_is_told os 
 
     gone : (e u : Bool) (d : Option Object) → (u ≡ true → true ≡ e) → cond e None d ≡ cond e None (cond u (Some o.object) d)
     gone true u d same = refl
-    gone false true d same = clash (same refl)
+    gone false true d same = absurd (true≢false (same refl))
     gone false false d same = refl
 
     by : (b : Bool) → eqb f o.key.file ≡ b → found (without os f) j ≡ cond (eqb f j.file) None (found os j)
@@ -65,7 +62,7 @@ removal_is_told (o ∷ os) f j = by (eqb f o.key.file) refl (removal_is_told os 
     by true e ih = ih ∙ gone (eqb f j.file) (same_key o.key j) (found os j) (λ u. sym e ∙ alike u)
     by false e ih =
         ap (λ (x : Option Object). cond (same_key o.key j) (Some o.object) x) ih
-        ∙ swap (same_key o.key j) (eqb f j.file) (Some o.object) None (found os j) (λ u t. clash (sym t ∙ sym (alike u) ∙ e))
+        ∙ swap (same_key o.key j) (eqb f j.file) (Some o.object) None (found os j) (λ u t. true≢false (sym t ∙ sym (alike u) ∙ e))
 
 pub found_fits : FoundFits
 found_fits [] k v t e = absurd (let z : ◌≡◌ {A = ℕ} 0 1 = cc in omega arith)
