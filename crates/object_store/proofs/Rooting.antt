@@ -1,6 +1,6 @@
 -- No chunk is left without an entry exactly when every key that the batch sets stands.
 use Rattle.std.proofs.Common.{◌≡◌, ℕ, Bool, true, false, cond, not, ◌&&◌, ◌||◌, eqb, List, [], ◌∷◌, sym, refl, ap, ◌∙◌, ap₂, inl, inr, arith}
-use Rattle.std.proofs.Math.Bool.{or_assoc}
+use Rattle.std.proofs.Math.Bool.{or-false, or_assoc}
 use Rattle.std.proofs.lemmas.Bool.{true≢false, false≢true, and_parts, and_from, or_parts, or_cases, or_left, or_right, not-true, eqb-true}
 use Rattle.object.specs.declared.key.Key.{Key}
 use Rattle.object_store.specs.declared.change.Change.{Change}
@@ -24,11 +24,7 @@ unset_key (Set j v ∷ cs) k n =
 -- the keys after a batch: those of before and those it sets, but for the files that it removes
 pub has_after : (cs : List Change) (os : Objects) (k : Key) → in_order cs ≡ true
     → has_key (keys_of (after_batch os cs)) k ≡ (not (removes cs k.file) && (has_key (keys_of os) k || sets_key cs k))
-has_after [] os k t = none (has_key (keys_of os) k)
-  where
-    none : (b : Bool) → b ≡ (b || false)
-    none true = refl
-    none false = refl
+has_after [] os k t = sym (or-false (has_key (keys_of os) k))
 has_after (Set j v ∷ cs) os k t =
     has_after cs (put os j v) k t ∙ ap (λ (b : Bool). not (removes cs k.file) && (b || sets_key cs k)) (has_put key_of os (record { key = j; object = v }) k)
     ∙ ap (λ (b : Bool). not (removes cs k.file) && b) (or_assoc (has_key (keys_of os) k) (same_key j k) (sets_key cs k))
