@@ -8,7 +8,7 @@ use Rattle.object_store.specs.declared.fault.ObjectFault.TheVariants.{WorkPage, 
 use Rattle.object_store.specs.declared.kept.Kept.{Kept}
 use Rattle.object_store.specs.Fit.{Judges, fit, verdict}
 use Rattle.object_store.specs.Lent.{gap, shelf_of, table_shelf, TableWhole, table_verdict}
-use Rattle.object_store.specs.Objects.{key_of, keys_of, after_batch}
+use Rattle.object_store.specs.Objects.{Objects, key_of, keys_of, after_batch}
 use Rattle.object_store.specs.Says.{Batches, answer, paged}
 use Rattle.object_store.specs.Shelf.{Sound}
 use Rattle.object_store.proofs.Keeping.{rising_after, fit_after, sound_of}
@@ -16,14 +16,15 @@ use Rattle.object_store.proofs.Verdicts.{Passing, passing}
 
 module _ (places : List Kept) (len : ℕ) (cs : List Change) where
   -- the part of the table that is lent is the map
-  pub judged : TableWhole places len → (limit unused : ℕ) → limit ≡ min (length places) 208 → unused ≡ gap 1 (keys_of (take len places)) → (r : Result (Unit {0}) ObjectFault)
-      → Judges (map key_of (take len places)) limit unused false cs r → table_verdict places len cs ≡ r
-  judged whole limit unused l u r says =
+  pub judged : TableWhole places len → (os : Objects) → os ≡ take len places → (limit unused : ℕ) → limit ≡ min (length places) 208 → unused ≡ gap 1 (keys_of os) → (r : Result (Unit {0}) ObjectFault)
+      → Judges (map key_of os) limit unused false cs r → r ≡ table_verdict places len cs
+  judged whole os is limit unused l u r says =
       let good = whole.sound in
       let few = good.few refl in
       let long = length-map (take len places) key_of in
-      ap₂ (λ (a b : ℕ). verdict (take len places) a b false cs) (sym l) (sym u)
-      ∙ sym (says (omega (arith, few, long)) good.rising good.entries (take len places) refl)
+      let verdicts : Judges (keys_of (take len places)) limit unused false cs r = subst (λ (m : Objects). Judges (keys_of m) limit unused false cs r) is says in
+      verdicts (omega (arith, few, long)) good.rising good.entries (take len places) refl
+      ∙ ap₂ (λ (a b : ℕ). verdict (take len places) a b false cs) l (u ∙ ap (λ (m : Objects). gap 1 (keys_of m)) is)
 
   module _ (whole : TableWhole places len) (ok : table_verdict places len cs ≡ Ok tt) where
     pub passed : Passing (take len places) (min (length places) 208) (gap 1 (keys_of (take len places))) cs

@@ -1,9 +1,8 @@
 // An object store in the caller's memory.
-ghost use Rattle.std.specs.Prelude.{◌≡◌, ◌≤◌, length};
-ghost use Rattle.object_store.specs.Lent.{ChangesTable, TableWhole, gap, table_shelf};
+ghost use Rattle.std.specs.Prelude.{◌≡◌, ◌≤◌, length, min, take};
+ghost use Rattle.object_store.specs.Lent.{TableWhole, gap, table_shelf, table_verdict};
 ghost use Rattle.object_store.specs.Objects.{found, keys_of};
 
-use crate::apply::make;
 use crate::change::Change;
 use crate::check::judge;
 use crate::fault::ObjectFault;
@@ -34,22 +33,12 @@ fn lowest_unused(map: &[Kept]) -> u32
     number
 }
 
-// Makes the batch of the map in the first `len` places, or says why not; answers how many keys there are then.
-fn change_table(places: &mut [Kept], len: usize, changes: &[Change]) -> Result<usize, ObjectFault>
-    requires { TableWhole places.old len }
-    ensures { ChangesTable places.old len changes.now result places.new }
-{
-    let limit = places.len().min(KEY_LIMIT);
-    let map = &places[..len];
-    judge(map, limit, lowest_unused(map), false, changes)?;
-    Ok(make(places, len, changes))
-}
-
 /// A map in lent places, up to 208 of them. Its power never goes, and its numbers are never spent.
 #[derive(Drop)]
 pub struct TableStore<'a> {
-    places: &'a mut [Kept],
-    len: usize,
+    // Lent, as there is no heap; the first ones hold the map.
+    pub(crate) places: &'a mut [Kept],
+    pub(crate) len: usize,
 }
 
 impl<'a> TableStore<'a> {
@@ -60,6 +49,30 @@ impl<'a> TableStore<'a> {
         ensures whole { TableWhole result.places.now result.len }
     {
         TableStore { places, len: 0 }
+    }
+
+    // The keys and what stands under them.
+    fn map(&self) -> &[Kept]
+        requires { self.now.len ≤ length self.now.places.now }
+        ensures { result.now ≡ take self.now.len self.now.places.now }
+    {
+        &self.places[..self.len]
+    }
+
+    // The places, up to 208.
+    fn room(&self) -> usize
+        ensures { result ≡ min (length self.now.places.now) 208 }
+    {
+        self.places.len().min(KEY_LIMIT)
+    }
+
+    // The answer to a batch.
+    fn judge(&self, changes: &[Change]) -> Result<(), ObjectFault>
+        requires { TableWhole self.now.places.now self.now.len }
+        ensures { result ≡ table_verdict self.now.places.now self.now.len changes.now }
+    {
+        let map = self.map();
+        judge(map, self.room(), lowest_unused(map), false, changes)
     }
 }
 
@@ -77,15 +90,15 @@ impl<'a> ObjectStore for TableStore<'a> {
     }
 
     fn key(&self, index: usize) -> Result<Option<Key>, ObjectFault> {
-        Ok(self.places[..self.len].get(index).map(|kept| kept.key))
+        Ok(self.map().get(index).map(|kept| kept.key))
     }
 
     fn limit(&self) -> Result<usize, ObjectFault> {
-        Ok(self.places.len().min(KEY_LIMIT))
+        Ok(self.room())
     }
 
     fn unused(&self) -> Result<u32, ObjectFault> {
-        Ok(lowest_unused(&self.places[..self.len]))
+        Ok(lowest_unused(self.map()))
     }
 
     fn is_spent(&self) -> Result<bool, ObjectFault> {
@@ -94,12 +107,13 @@ impl<'a> ObjectStore for TableStore<'a> {
 
     fn get(&self, work: &mut [u8], key: &Key) -> Result<Option<Object>, ObjectFault> {
         check_page(work)?;
-        Ok(find_object(&self.places[..self.len], key))
+        Ok(find_object(self.map(), key))
     }
 
     fn batch(&mut self, work: &mut [u8], changes: &[Change]) -> Result<(), ObjectFault> {
         check_page(work)?;
-        self.len = change_table(self.places, self.len, changes)?;
+        self.judge(changes)?;
+        self.make(changes);
         Ok(())
     }
 
