@@ -1,14 +1,12 @@
 -- What is found in a table by an index, and by a key.
-use Rattle.std.proofs.Common.{◌≡◌, ℕ, zero, suc, ◌<◌, ◌≤◌, Bool, true, false, cond, List, [], ◌∷◌, map, length, get_or, take, is_some, Some, None, Option, sym, refl, ap, ◌∙◌, ap₂, inl, inr, arith, length-take}
-use lib.ListN.{length-map}
+use Rattle.std.proofs.Common.{◌≡◌, ℕ, zero, suc, ◌<◌, Bool, true, false, cond, List, [], ◌∷◌, map, length, get_or, is_some, Some, None, Option, sym, refl, ap, ◌∙◌, ap₂, inl, inr, arith}
 use Rattle.std.proofs.lemmas.Bool.{cases_Bool, or_from, or_left, or_right}
 use Rattle.std.specs.Option.{MatchOption, IsSomeAnd}
 use Rattle.object.specs.declared.value.Object.{Object}
 use Rattle.lookup.specs.Found.{Absent, Found}
 use Rattle.object.specs.declared.key.Key.{Key}
 use Rattle.object_store.specs.declared.kept.Kept.{Kept}
-use Rattle.object_store.specs.Objects.{Objects, key_of, keys_of, found}
-use Rattle.object_store.specs.Shelf.{key_at}
+use Rattle.object_store.specs.Objects.{Objects, key_of, found}
 use Rattle.object_store.specs.Tables.{has_key, same_key}
 use Rattle.object_store.proofs.Keys.{same_file, same_part, same_itself}
 use Rattle.object_store.proofs.Nothing.{no_kept}

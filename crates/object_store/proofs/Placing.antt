@@ -1,5 +1,5 @@
 -- A record put where the lower ones end.
-use Rattle.std.proofs.Common.{◌≡◌, ℕ, zero, suc, ◌+◌, ◌-◌, ◌<◌, ◌≤◌, Bool, true, false, cond, List, [], ◌∷◌, length, get_or, take, Option, Some, None, Ok, Err, Bor, set, sym, refl, ap, ◌∙◌, subst, ap₂, inl, inr, arith, length-set}
+use Rattle.std.proofs.Common.{◌≡◌, ℕ, zero, suc, ◌+◌, ◌<◌, ◌≤◌, Bool, true, false, cond, List, [], ◌∷◌, length, get_or, take, Option, Some, None, Ok, Err, Bor, set, sym, refl, ap, ◌∙◌, subst, ap₂, inl, inr, arith, length-set}
 use lib.Seq.{take-set-lt}
 use Rattle.std.specs.List.{insert, HoldsAt}
 use Rattle.std.specs.Option.{IfSome, IsSome, MatchOption}

@@ -1,5 +1,5 @@
 -- What an object store holds and tells, and what is known of every one.
-use Rattle.std.specs.Prelude.{◌≡◌, ℕ, zero, suc, ◌≤◌, Bool, true, false, ◌&&◌, List, [], ◌∷◌, length, Some, None, Option}
+use Rattle.std.specs.Prelude.{◌≡◌, ℕ, ◌≤◌, Bool, true, false, ◌&&◌, List, [], ◌∷◌, length, Option}
 use Rattle.std.specs.List.{slice_get}
 use Rattle.object.specs.declared.key.Key.{Key}
 use Rattle.object_store.specs.Changes.{object_fits}

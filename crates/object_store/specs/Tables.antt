@@ -1,5 +1,5 @@
 -- Records that each stand for one key, kept by rising key.
-use Rattle.std.specs.Prelude.{ℕ, ◌+◌, ◌*◌, ◌≤◌, Bool, false, cond, ◌&&◌, ◌||◌, List, [], ◌∷◌, ◌==◌, nat_lt}
+use Rattle.std.specs.Prelude.{ℕ, ◌+◌, ◌≤◌, Bool, cond, ◌&&◌, List, [], ◌∷◌, ◌==◌, nat_lt}
 use Rattle.std.specs.List.{list_any}
 use Rattle.object.specs.declared.key.Key.{Key}
 use Rattle.object.specs.Rank.{key_rank}

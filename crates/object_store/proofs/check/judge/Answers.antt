@@ -1,9 +1,6 @@
-use Rattle.std.proofs.Common.{◌≡◌, ℕ, ◌+◌, ◌≤◌, true, List, [], map, length, arith}
+use Rattle.std.proofs.Common.{map, arith}
 use lib.ListN.{length-map}
-use Rattle.object.specs.declared.key.Key.{Key}
-use Rattle.object_store.specs.declared.change.Change.{Change}
-use Rattle.object_store.specs.Counts.{staying, brought}
-use Rattle.object_store.proofs.Verdicts.{fit_keys, few_changes, unfit, full, is_spent, passed}
+use Rattle.object_store.proofs.Verdicts.{few_changes, unfit, full, is_spent, passed}
 use Rattle.object_store.proofs.check.judge.Goals as goal
 
 pub returns-then-not-is_fit : goal.returns-then-not-is_fit

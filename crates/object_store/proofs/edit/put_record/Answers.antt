@@ -1,4 +1,4 @@
-use Rattle.std.proofs.Common.{Bool, false, true, take, subst, ap, ◌∙◌, rules}
+use Rattle.std.proofs.Common.{take, subst, ap, ◌∙◌, rules}
 use Rattle.lookup.specs.Inserts.{Leads}
 use Rattle.object.specs.Rank.{key_rank}
 use Rattle.object_store.proofs.Placing.{Tells, tells, puts_over, puts_new, puts_none}
