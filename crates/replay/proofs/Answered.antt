@@ -1,7 +1,6 @@
 -- From the tables of a scan to what it answers.
-use Rattle.std.proofs.Common.{◌≡◌, ℕ, ◌-◌, ◌*◌, ◌/◌, ◌<◌, ◌≤◌, true, List, length, get_or, take, Ok, Err, Result, sym, refl, ap, subst, mul_comm, arith}
+use Rattle.std.proofs.Common.{◌≡◌, ℕ, ◌-◌, ◌*◌, ◌/◌, ◌<◌, ◌≤◌, true, List, length, get_or, Ok, Err, Result, sym, refl, ap, subst, mul_comm, arith}
 use Rattle.std.proofs.lemmas.Nat.{div_below}
-use Rattle.std.proofs.lemmas.List.{length-take-le}
 use Rattle.flash.specs.Chip.{Chip, Formed, page}
 use Rattle.page.specs.declared.fields.Page.{Page}
 use Rattle.page.specs.declared.fields.PageFault.{PageFault}
@@ -9,11 +8,11 @@ use Rattle.page.specs.declared.fields.PageFault.TheVariants.{NotData, OutOfRange
 use Rattle.page.specs.Decoded.{decoded}
 use Rattle.page.proofs.Decodes.{data_read}
 use Rattle.tree.specs.declared.node.Node.{Node}
-use Rattle.tree.specs.Tree.{Entries, Among}
+use Rattle.tree.specs.Tree.{Among}
 use Rattle.replay.specs.declared.seen.Seen.{Seen}
 use Rattle.replay.specs.declared.fault.ReplayFault.{ReplayFault}
 use Rattle.replay.specs.declared.fault.ReplayFault.TheVariants.{WorkPage, Buffer, Blocks, Flash, Empty, Damaged}
-use Rattle.replay.specs.declared.slot.Slot.{Slot}
+use Rattle.object.specs.declared.slot.Slot.{Slot}
 use Rattle.replay.specs.declared.tables.Scan.{Scan}
 use Rattle.replay.specs.Laws.{DataAt}
 use Rattle.replay.specs.Damage.{NoTree, Senseless, overrun, many_keys, key_limit, Damage, senseless, FewBlocks, ScansSeen, Scans}
@@ -62,26 +61,20 @@ module _ (c : Chip) (xs : List Seen) (r : Remembers c (length c.pages) xs) where
     pub damaged : Senseless (Counts (LogOf c) (get_or xs (length xs - 1) nothing).header.floor) (key_limit c) → Damage c
     damaged s = senseless l.top l.is_top (subst (λ (n : ℕ). Senseless (Counts (LogOf c) n) (key_limit c)) l.floor s)
 
-    module _ (slots : List Slot) (len : ℕ) (long : len ≤ length slots) (told : KeysTold (Counts (LogOf c) (get_or xs (length xs - 1) nothing).header.floor) AnyKey (take len slots)) where
-      pub damaged_keys : key_limit c < len → Damage c
-      damaged_keys many = damaged (many_keys (take len slots) told (omega (arith, length-take-le len slots long)))
+    module _ (slots : List (Slot ℕ)) (told : KeysTold (Counts (LogOf c) (get_or xs (length xs - 1) nothing).header.floor) AnyKey slots) where
+      pub damaged_keys : key_limit c < length slots → Damage c
+      damaged_keys many = damaged (many_keys slots told many)
 
       module _ (nodes : List Node) (shown : TreeShown (Counts (LogOf c) (get_or xs (length xs - 1) nothing).header.floor) nodes) where
-        part : {E : Entries} → OverrunIn E (take (len - 0) slots) → OverrunIn E (take len slots)
-        part {E} o = let e : len - 0 ≡ len = omega arith in subst (λ (n : ℕ). OverrunIn E (take n slots)) e o
+        pub damaged_chunk : OverrunIn (Among nodes) slots → Damage c
+        damaged_chunk o = damaged (overrun (overrun_to c low slots told (remembered_distinct c xs r) nodes shown o))
 
-        back : {E : Entries} → OverrunIn E (take len slots) → OverrunIn E (take (len - 0) slots)
-        back {E} o = let e : len ≡ len - 0 = omega arith in subst (λ (n : ℕ). OverrunIn E (take n slots)) e o
-
-        pub damaged_chunk : OverrunIn (Among nodes) (take (len - 0) slots) → Damage c
-        damaged_chunk o = damaged (overrun (overrun_to c low (take len slots) told (remembered_distinct c xs r) nodes shown (part o)))
-
-        pub undamaged : (NoTree (Counts (LogOf c) (get_or xs (length xs - 1) nothing).header.floor) → ⊥) → len ≤ key_limit c → (OverrunIn (Among nodes) (take (len - 0) slots) → ⊥) → Damage c → ⊥
+        pub undamaged : (NoTree (Counts (LogOf c) (get_or xs (length xs - 1) nothing).header.floor) → ⊥) → length slots ≤ key_limit c → (OverrunIn (Among nodes) slots → ⊥) → Damage c → ⊥
         undamaged tree few none =
             no_damage c xs r l.top l.is_top
             (λ n. tree (subst (λ (i : ℕ). NoTree (Counts (LogOf c) i)) (sym l.floor) n))
-            (λ o. none (back (overrun_from c low (take len slots) told (remembered_distinct c xs r) nodes shown (subst (λ (i : ℕ). Overrun (Counts (LogOf c) i)) (sym l.floor) o))))
-            (take len slots) (subst (λ (i : ℕ). KeysTold (Counts (LogOf c) i) AnyKey (take len slots)) l.floor told) (omega (arith, length-take-le len slots long))
+            (λ o. none (overrun_from c low slots told (remembered_distinct c xs r) nodes shown (subst (λ (i : ℕ). Overrun (Counts (LogOf c) i)) (sym l.floor) o)))
+            slots (subst (λ (i : ℕ). KeysTold (Counts (LogOf c) i) AnyKey slots) l.floor told) few
 
 -- a chip of which no page is remembered has no data page
 pub no_pages : (c : Chip) (xs : List Seen) → length xs ≡ 0 → Remembers c (length c.pages) xs → (q : ℕ) → DataAt c q → ⊥

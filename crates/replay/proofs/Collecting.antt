@@ -10,7 +10,7 @@ use Rattle.object.specs.Rank.{key_rank}
 use Rattle.replay.specs.declared.seen.Says.{Says}
 use Rattle.replay.specs.declared.seen.Says.TheVariants.{Sets}
 use Rattle.replay.specs.declared.seen.Seen.{Seen}
-use Rattle.replay.specs.declared.slot.Slot.{Slot}
+use Rattle.object.specs.declared.slot.Slot.{Slot}
 use Rattle.replay.specs.Shows.{SaidTo, ShowsAt}
 use Rattle.replay.specs.Slots.{slot_at, slot_rank, SmallParts, Collects}
 use Rattle.replay.proofs.Nothing.{nothing}
@@ -22,7 +22,7 @@ rank_apart k j a b e =
     let p : k.part ≡ j.part = omega arith in
     ap (λ (x : ℕ). record { file = x; part = k.part }) f ∙ ap (λ (x : ℕ). record { file = j.file; part = x }) p
 
-sets_same : (k j : Key) → Sets k ≡ Sets j → k ≡ j
+pub sets_same : (k j : Key) → Sets k ≡ Sets j → k ≡ j
 sets_same k j e = cc
 
 one_more : (i j : ℕ) → j < i + 1 → (j < i) ⊎ (j ≡ i)
@@ -51,7 +51,7 @@ module _ (xs : List Seen) (flags : List Bool) (f : ℕ) where
     pub collects_none : Collects xs flags f 0 W []
     collects_none = record { rising = λ i j d lt h. absurd (omega arith); each = λ i d h. absurd (omega arith); all = λ j k h s w. absurd (omega arith) }
 
-    module _ (at : ℕ) (here : at < length xs) (slots : List Slot) (c : Collects xs flags f at W slots) where
+    module _ (at : ℕ) (here : at < length xs) (slots : List (Slot ℕ)) (c : Collects xs flags f at W slots) where
       -- a page that shows no wanted key
       pub collects_skip : ((k : Key) → ShowsAt xs flags f at k → W k → ⊥) → Collects xs flags f (at + 1) W slots
       collects_skip none =
@@ -63,7 +63,7 @@ module _ (xs : List Seen) (flags : List Bool) (f : ℕ) where
 
       module _ (small : SmallParts xs) (key : Key) (shown : ShowsAt xs flags f at key) where
         -- no slot has the rank of a key that a new page shows
-        pub collects_fresh : (i : ℕ) (d : Slot) → i < length slots → slot_rank (get_or slots i d) ≡ key_rank key → ⊥
+        pub collects_fresh : (i : ℕ) (d : Slot ℕ) → i < length slots → slot_rank (get_or slots i d) ≡ key_rank key → ⊥
         collects_fresh i d h e =
             let (j, k, lt, s, w, is) = c.each i d h in
             let low : j < length xs = omega arith in
@@ -71,7 +71,7 @@ module _ (xs : List Seen) (flags : List Bool) (f : ℕ) where
             omega (arith, shows_once j at key low here (subst (ShowsAt xs flags f j) same s) shown)
 
         -- one key more
-        pub collects_more : W key → (after : List Slot) (e : Seen) → InPlace slot_rank slots (slot_at key (get_or xs at e)) after → Collects xs flags f (at + 1) W after
+        pub collects_more : W key → (after : List (Slot ℕ)) (e : Seen) → InPlace slot_rank slots (slot_at key (get_or xs at e)) after → Collects xs flags f (at + 1) W after
         collects_more wanted after e p =
             subst (Collects xs flags f (at + 1) W) (sym p.is) (record {
               rising = rising_inserted slots slot p.at p.within slot_rank c.rising p.below p.above;
@@ -84,7 +84,7 @@ module _ (xs : List Seen) (flags : List Bool) (f : ℕ) where
               ];
             })
           where
-            slot : Slot
+            slot : Slot ℕ
             slot = slot_at key (get_or xs at e)
 
             placed : (j : ℕ) (k : Key) (o : Seen) → j ≡ at → ShowsAt xs flags f at k → slot ≡ slot_at k (get_or xs j o)
@@ -92,7 +92,7 @@ module _ (xs : List Seen) (flags : List Bool) (f : ℕ) where
                 let same : key ≡ k = shows_one_key at key k shown s in
                 ap (slot_at key) (get_or_default xs at e o here) ∙ ap (λ (x : Key). slot_at x (get_or xs at o)) same ∙ ap (λ (n : ℕ). slot_at k (get_or xs n o)) (sym one)
 
-            known : (i : ℕ) (d : Slot) → At slots slot p.at p.within i d
+            known : (i : ℕ) (d : Slot ℕ) → At slots slot p.at p.within i d
                 → (j : ℕ) × (k : Key) × (j < at + 1) × ShowsAt xs flags f j k × W k × ((o : Seen) → get_or (insert slots p.at slot) i d ≡ slot_at k (get_or xs j o))
             known i d (before l a) = let (j, k, lt, s, w, is) = c.each i d (omega (arith, p.within)) in (j, k, omega arith, s, w, λ o. a ∙ is o)
             known i d (itself l a) = (at, key, omega arith, shown, wanted, λ o. a ∙ ap (slot_at key) (get_or_default xs at e o here))

@@ -2,16 +2,13 @@
 use Rattle.std.proofs.Common.{◌≡◌, ℕ, zero, suc, ◌-◌, ◌<◌, ◌≤◌, List, length, get_or, sym, ap, ◌∙◌, arith}
 use native.Mathlib.Decide.{dec_lt, ℕ_discrete}
 use Rattle.object.specs.declared.key.Key.{Key}
-use Rattle.replay.specs.declared.slot.Slot.{Slot}
-use Rattle.replay.specs.Log.{Log, entry_key}
-use Rattle.replay.specs.Slots.{slot_at, slot_rank}
+use Rattle.object.specs.declared.slot.Slot.{Slot}
+use Rattle.replay.specs.Log.{Log}
+use Rattle.replay.specs.Slots.{slot_rank}
 use Rattle.replay.specs.Telling.{KeysTold}
-use Rattle.replay.proofs.Nothing.{nothing}
+use Rattle.replay.proofs.Nothing.{blank}
 
-module _ (C : Log) (Kind : Key → Type 0) (xs ys : List Slot) (a : KeysTold C Kind xs) (b : KeysTold C Kind ys) where
-  blank : Slot
-  blank = slot_at (entry_key 0) nothing
-
+module _ (C : Log) (Kind : Key → Type 0) (xs ys : List (Slot ℕ)) (a : KeysTold C Kind xs) (b : KeysTold C Kind ys) where
   stands : (i : ℕ) → i < length xs → (j : ℕ) × (j < length ys) × (get_or ys j blank ≡ get_or xs i blank)
   stands i h =
       let (k, v, p, t, kind, is) = a.each i blank h in

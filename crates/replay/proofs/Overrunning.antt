@@ -5,24 +5,20 @@ use Rattle.object.specs.declared.key.Key.{Key}
 use Rattle.object.specs.declared.value.Object.TheVariants as object
 use Rattle.tree.specs.declared.node.Node.{Node}
 use Rattle.tree.specs.Tree.{Among}
-use Rattle.replay.specs.declared.slot.Slot.{Slot}
+use Rattle.object.specs.declared.slot.Slot.{Slot}
 use Rattle.replay.specs.Entries.{TreeShown}
-use Rattle.replay.specs.Log.{LogOf, chunk_key, entry_key, Counts, Shown, Distinct}
+use Rattle.replay.specs.Log.{LogOf, chunk_key, Counts, Shown, Distinct}
 use Rattle.replay.specs.Overrun.{Overrun, Overruns, OverrunIn}
-use Rattle.replay.specs.Slots.{slot_at}
 use Rattle.replay.specs.Telling.{Telling, AnyKey, KeysTold}
-use Rattle.replay.proofs.Nothing.{nothing}
+use Rattle.replay.proofs.Nothing.{blank}
 use Rattle.replay.proofs.Tied.{chip_newest, newest_shown}
 
-blank : Slot
-blank = slot_at (entry_key 0) nothing
-
-module _ (c : Chip) (f : ℕ) (slots : List Slot) (told : KeysTold (Counts (LogOf c) f) AnyKey slots) (distinct : Distinct (LogOf c)) (nodes : List Node)
+module _ (c : Chip) (f : ℕ) (slots : List (Slot ℕ)) (told : KeysTold (Counts (LogOf c) f) AnyKey slots) (distinct : Distinct (LogOf c)) (nodes : List Node)
     (tree : TreeShown (Counts (LogOf c) f) nodes) where
   pub overrun_to : OverrunIn (Among nodes) slots → Overrun (Counts (LogOf c) f)
   overrun_to (i, h, all) =
       let (k, v, p, t, kind, is) = told.each i blank h in
-      let o : Overruns (Among nodes) k = subst (λ (s : Slot). Overruns (Among nodes) s.key) is (all blank) in
+      let o : Overruns (Among nodes) k = subst (λ (s : Slot ℕ). Overruns (Among nodes) s.key) is (all blank) in
       let shown : Shown (Counts (LogOf c) f) k v = newest_shown c f k v p distinct t.newest t.gives in
       let part : k.part ≡ (k.part - 1) + 1 = omega (arith, o.chunk) in
       record {
@@ -43,7 +39,7 @@ module _ (c : Chip) (f : ℕ) (slots : List Slot) (told : KeysTold (Counts (LogO
       let (i, h, is) = told.all (chunk_key o.file o.index) o.object p t tt in (
         i,
         h,
-        λ d. subst (λ (s : Slot). Overruns (Among nodes) s.key) (sym (is d)) (record {
+        λ d. subst (λ (s : Slot ℕ). Overruns (Among nodes) s.key) (sym (is d)) (record {
           entry = o.entry;
           there = (tree o.file o.entry).1 o.told;
           chunk = omega arith;

@@ -1,9 +1,8 @@
 -- The remembered pages, one place further.
-use Rattle.std.proofs.Common.{◌≡◌, ℕ, ◌+◌, ◌<◌, ◌≤◌, true, ◌⊎◌, List, [], length, get_or, take, IfOk, Ok, Err, Result, sym, ap, ◌∙◌, subst, inl, inr, arith}
+use Rattle.std.proofs.Common.{◌≡◌, ℕ, ◌+◌, ◌<◌, ◌≤◌, true, ◌⊎◌, List, [], length, get_or, IfOk, Ok, Err, Result, sym, ap, ◌∙◌, subst, inl, inr, arith}
 use native.Mathlib.Decide.{ℕ_discrete}
 use Rattle.std.specs.List.{insert}
-use Rattle.std.proofs.lemmas.List.{get_or-take, length-take-le}
-use Rattle.lookup.proofs.Insertion.{At, before, itself, later, which, stays, stands, rising_inserted}
+use Rattle.lookup.proofs.Insertion.{At, before, itself, later, which, stays, stands, rising_inserted, long}
 use Rattle.flash.specs.Chip.{Chip, page}
 use Rattle.page.specs.declared.fields.Page.{Page}
 use Rattle.page.specs.declared.fields.PageFault.{PageFault}
@@ -103,27 +102,19 @@ module _ (c : Chip) (m : ℕ) (xs : List Seen) (pg : Page) (inside : m < length 
   remembers_more zs p = subst (Remembers c (m + 1)) (sym p.is) (remembers_added p.at p.within p.below p.above)
 
 -- what was read at the next place is taken in
-pub step_on : (c : Chip) (m len n : ℕ) (olds news : List Seen) (read : Result Page PageFault) → decoded (page c m) ≡ read → m < length c.pages → len ≤ m
-    → Remembers c m (take len olds) → TakesIn olds len m read (Ok n) news → (n ≤ m + 1) × Remembers c (m + 1) (take n news)
-step_on c m len n olds news (Ok pg) is inside le r t =
-    (omega (arith, t.0), subst (λ i. Remembers c (m + 1) (take i news)) (sym t.0) (remembers_more c m (take len olds) pg inside is r (take (len + 1) news) t.1))
-step_on c m len n olds news (Err NotData) is inside le r t = (
-  omega (arith, t.0),
-  subst (λ i. Remembers c (m + 1) (take i news)) (sym t.0) (subst (λ xs. Remembers c (m + 1) (take len xs)) (sym t.1) (remembers_skip c m (take len olds) is r)),
-)
-step_on c m len n olds news (Err OutOfRange) is inside le r t = absurd t
+pub step_on : (c : Chip) (m : ℕ) (olds news : List Seen) (read : Result Page PageFault) → decoded (page c m) ≡ read → m < length c.pages → length olds ≤ m
+    → Remembers c m olds → TakesIn olds m read (Ok tt) news → (length news ≤ m + 1) × Remembers c (m + 1) news
+step_on c m olds news (Ok pg) is inside le r t =
+    (omega (arith, ap length t.is, long olds (seen_of (record { place = m; page = pg })) t.at t.within), remembers_more c m olds pg inside is r news t)
+step_on c m olds news (Err NotData) is inside le r t = (omega (arith, ap length t), subst (Remembers c (m + 1)) (sym t) (remembers_skip c m olds is r))
+step_on c m olds news (Err OutOfRange) is inside le r t = absurd t
 
 -- or the chip is damaged
-pub step_stops : (c : Chip) (m len : ℕ) (e : ReplayFault) (olds news : List Seen) (read : Result Page PageFault) → decoded (page c m) ≡ read → m < length c.pages
-    → Remembers c m (take len olds) → TakesIn olds len m read (Err e) news → (e ≡ Damaged) × (Unreadable c ⊎ Twice c)
-step_stops c m len e olds news (Ok pg) is inside r (stop, room, twice) =
-    let (at, h, same) = twice in
-    (stop, inr (remembers_twice c m (take len olds) pg inside is r at (omega (arith, long)) (λ d. ap seen_number (get_or-take len olds at d h) ∙ same d)))
-  where
-    long : length (take len olds) ≡ len
-    long = length-take-le len olds (omega arith)
-step_stops c m len e olds news (Err NotData) is inside r t = absurd t
-step_stops c m len e olds news (Err OutOfRange) is inside r t = (t, inl (m, inside, is))
+pub step_stops : (c : Chip) (m : ℕ) (e : ReplayFault) (olds news : List Seen) (read : Result Page PageFault) → decoded (page c m) ≡ read → m < length c.pages
+    → Remembers c m olds → TakesIn olds m read (Err e) news → (e ≡ Damaged) × (Unreadable c ⊎ Twice c)
+step_stops c m e olds news (Ok pg) is inside r (stop, (at, h, same)) = (stop, inr (remembers_twice c m olds pg inside is r at h same))
+step_stops c m e olds news (Err NotData) is inside r t = absurd t
+step_stops c m e olds news (Err OutOfRange) is inside r t = (t, inl (m, inside, is))
 
 -- what was read fits
 pub read_fits : (bytes : List ℕ) (read : Result Page PageFault) → decoded bytes ≡ read → IfOk read (λ pg. fits pg ≡ true)

@@ -1,5 +1,5 @@
 -- What is shown makes sense, or it does not: from the tables to the chip.
-use Rattle.std.proofs.Common.{◌≡◌, ℕ, ◌+◌, ◌<◌, ◌≤◌, true, ltb, List, length, get_or, Some, None, sym, ap, ◌∙◌, subst, arith}
+use Rattle.std.proofs.Common.{◌≡◌, ℕ, ◌+◌, ◌<◌, ◌≤◌, true, ltb, List, length, get_or, Ok, Err, sym, ap, ◌∙◌, subst, arith}
 use native.Mathlib.Decide.{dec_lt}
 use Rattle.std.proofs.lemmas.Bool.{and_parts, ltb-true}
 use Rattle.flash.specs.Chip.{Chip}
@@ -15,12 +15,12 @@ use Rattle.page.proofs.Ranges.{header_ranges}
 use Rattle.tree.specs.declared.node.Node.{Node}
 use Rattle.tree.specs.declared.sound.TreeFault.{TreeFault}
 use Rattle.tree.specs.declared.sound.TreeFault.TheVariants as fault
-use Rattle.tree.specs.Sound.{Faults}
+use Rattle.tree.specs.Sound.{Checks}
 use Rattle.tree.specs.Tree.{Among, Rooted}
-use Rattle.tree.proofs.Agreeing.{faults_same}
+use Rattle.tree.proofs.Agreeing.{checks_same}
 use Rattle.replay.specs.declared.seen.Says.TheVariants.{Sets}
 use Rattle.replay.specs.declared.seen.Seen.{Seen}
-use Rattle.replay.specs.declared.slot.Slot.{Slot}
+use Rattle.object.specs.declared.slot.Slot.{Slot}
 use Rattle.replay.specs.Damage.{NoTree, unreached, namesakes, many_entries, Senseless, no_tree, overrun, many_keys, key_limit, Damage, unreadable, twice, senseless}
 use Rattle.replay.specs.Entries.{EntryShown, TreeShown}
 use Rattle.replay.specs.Log.{Log, LogOf, Logged, floor_of, Counts, Top}
@@ -59,19 +59,19 @@ module _ (C : Log) (nodes : List Node) (same : TreeShown C nodes) where
   down file e = (same file e).1
 
   -- a fault of the table is one of what is shown
-  pub fault_shown : (f : TreeFault) → Faults (Among nodes) (Some f) → NoTree C
-  fault_shown fault.Unreached says = unreached (faults_same (Among nodes) (EntryShown C) up down (Some fault.Unreached) says)
-  fault_shown fault.Namesakes says = namesakes (faults_same (Among nodes) (EntryShown C) up down (Some fault.Namesakes) says).1
+  pub fault_shown : (f : TreeFault) → Checks (Among nodes) (Err f) → NoTree C
+  fault_shown fault.Unreached says = unreached (checks_same (Among nodes) (EntryShown C) up down (Err fault.Unreached) says)
+  fault_shown fault.Namesakes says = namesakes (checks_same (Among nodes) (EntryShown C) up down (Err fault.Namesakes) says).1
 
-  pub all_rooted : Faults (Among nodes) None → Rooted (EntryShown C)
-  all_rooted says = (faults_same (Among nodes) (EntryShown C) up down None says).0
+  pub all_rooted : Checks (Among nodes) (Ok tt) → Rooted (EntryShown C)
+  all_rooted says = (checks_same (Among nodes) (EntryShown C) up down (Ok tt) says).0
 
   -- and a table with none is one of a tree
-  pub tree_sound : (slots : List Slot) → KeysTold C EntryKey slots → length slots ≤ 60 → Faults (Among nodes) None → NoTree C → ⊥
+  pub tree_sound : (slots : List (Slot ℕ)) → KeysTold C EntryKey slots → length slots ≤ 60 → Checks (Among nodes) (Ok tt) → NoTree C → ⊥
   tree_sound slots told few says (unreached (file, e, there, nowhere)) =
-      let (path, s) = (faults_same (Among nodes) (EntryShown C) up down None says).0 file e there in
+      let (path, s) = (checks_same (Among nodes) (EntryShown C) up down (Ok tt) says).0 file e there in
       nowhere path s
-  tree_sound slots told few says (namesakes n) = (faults_same (Among nodes) (EntryShown C) up down None says).1 n
+  tree_sound slots told few says (namesakes n) = (checks_same (Among nodes) (EntryShown C) up down (Ok tt) says).1 n
   tree_sound slots told few says (many_entries more also many) = omega (arith, no_longer C EntryKey more slots also told)
 
 module _ (c : Chip) (xs : List Seen) (r : Remembers c (length c.pages) xs) where
@@ -101,7 +101,7 @@ module _ (c : Chip) (xs : List Seen) (r : Remembers c (length c.pages) xs) where
 
   module _ (t : Logged) (top : Top (LogOf c) t) where
     pub no_damage : (NoTree (Counts (LogOf c) (floor_of t)) → ⊥) → (Overrun (Counts (LogOf c) (floor_of t)) → ⊥)
-        → (slots : List Slot) → KeysTold (Counts (LogOf c) (floor_of t)) AnyKey slots → length slots ≤ key_limit c → Damage c → ⊥
+        → (slots : List (Slot ℕ)) → KeysTold (Counts (LogOf c) (floor_of t)) AnyKey slots → length slots ≤ key_limit c → Damage c → ⊥
     no_damage tree fits slots told few (unreadable (q, h, e)) = r.readable q h e
     no_damage tree fits slots told few (twice (p, q, hp, hq, same, apart)) = apart (ap (λ (x : Logged). x.place) (remembered_distinct c xs r p q hp hq same))
     no_damage tree fits slots told few (senseless u also s) =

@@ -7,7 +7,7 @@ use Rattle.object.specs.declared.value.Object.TheVariants as object
 use Rattle.page.specs.declared.fields.Entry.{Entry}
 use Rattle.tree.specs.Tree.{Entries}
 use Rattle.replay.specs.declared.seen.Seen.{Seen}
-use Rattle.replay.specs.declared.slot.Slot.{Slot}
+use Rattle.object.specs.declared.slot.Slot.{Slot}
 use Rattle.replay.specs.Entries.{EntryShown}
 use Rattle.replay.specs.Log.{LogOf, Logged, entry_key, Counts, Shown}
 use Rattle.replay.specs.Marks.{Marks}
@@ -33,11 +33,11 @@ module _ (c : Chip) (xs : List Seen) (r : Remembers c (length c.pages) xs) (flag
       (i, is.low, shows_from c xs r flags m f i p (entry_key k.file) e is n g)
 
   -- the keys of one kind of the files that live, collected, are the keys of that kind that are told
-  pub collected_told : (Wanted Kind : Key → Type 0) (slots : List Slot) → ((j : ℕ) (k : Key) → j < length xs → ShowsAt xs flags f j k → Wanted k → Kind k × Lives xs flags f k)
+  pub collected_told : (Wanted Kind : Key → Type 0) (slots : List (Slot ℕ)) → ((j : ℕ) (k : Key) → j < length xs → ShowsAt xs flags f j k → Wanted k → Kind k × Lives xs flags f k)
       → ((k : Key) → Kind k → Lives xs flags f k → Wanted k) → Collects xs flags f (length xs) Wanted slots → KeysTold (Counts (LogOf c) f) Kind slots
   collected_told Wanted Kind slots to from collects = record { rising = collects.rising; each = each; all = all }
     where
-      each : (i : ℕ) (d : Slot) → i < length slots → (k : Key) × (v : Object) × (p : Logged) × Telling (Counts (LogOf c) f) k v p × Kind k × (get_or slots i d ≡ slot_of k p)
+      each : (i : ℕ) (d : Slot ℕ) → i < length slots → (k : Key) × (v : Object) × (p : Logged) × Telling (Counts (LogOf c) f) k v p × Kind k × (get_or slots i d ≡ slot_of k p)
       each i d h =
           let (j, k, lt, s, w, is) = collects.each i d h in
           let (p, here) = page_at c xs r j lt in
@@ -46,7 +46,7 @@ module _ (c : Chip) (xs : List Seen) (r : Remembers c (length c.pages) xs) (flag
           let (e, alive) = lives_to k lives in
           (k, g.0, p, record { newest = n; gives = g.1; entry = e; alive = alive }, kind, is nothing ∙ ap (slot_at k) (here.is nothing))
 
-      all : (k : Key) (v : Object) (p : Logged) → Telling (Counts (LogOf c) f) k v p → Kind k → (i : ℕ) × (i < length slots) × ((d : Slot) → get_or slots i d ≡ slot_of k p)
+      all : (k : Key) (v : Object) (p : Logged) → Telling (Counts (LogOf c) f) k v p → Kind k → (i : ℕ) × (i < length slots) × ((d : Slot ℕ) → get_or slots i d ≡ slot_of k p)
       all k v p t kind =
           let (j, here) = at c xs r p t.newest.counted.here in
           let (i, lt, is) = collects.all j k here.low (shows_from c xs r flags m f j p k v here t.newest t.gives) (from k kind (lives_from k t.entry t.alive)) in
@@ -56,11 +56,15 @@ module _ (c : Chip) (xs : List Seen) (r : Remembers c (length c.pages) xs) (flag
   entry_itself : (k : Key) → k.part ≡ 0 → entry_key k.file ≡ k
   entry_itself k e = ap (λ (n : ℕ). record { file = k.file; part = n }) (sym e)
 
-  pub entries_told : (slots : List Slot) → Collects xs flags f (length xs) EntryKey slots → KeysTold (Counts (LogOf c) f) EntryKey slots
+  pub entries_told : (slots : List (Slot ℕ)) → Collects xs flags f (length xs) EntryKey slots → KeysTold (Counts (LogOf c) f) EntryKey slots
   entries_told slots =
       collected_told EntryKey EntryKey slots (λ j k h s w. (w, (j, h, subst (ShowsAt xs flags f j) (sym (entry_itself k w)) s))) (λ k kind lives. kind)
 
-  pub keys_told : (E : Entries) (slots : List Slot) → ((file : ℕ) (e : Entry) → (E file e → EntryShown (Counts (LogOf c) f) file e) × (EntryShown (Counts (LogOf c) f) file e → E file e))
+  -- the same of slots that are handed on
+  pub entries_in : (found slots : List (Slot ℕ)) → slots ≡ found → Collects xs flags f (length xs) EntryKey found → KeysTold (Counts (LogOf c) f) EntryKey slots
+  entries_in found slots same collects = subst (KeysTold (Counts (LogOf c) f) EntryKey) (sym same) (entries_told found collects)
+
+  pub keys_told : (E : Entries) (slots : List (Slot ℕ)) → ((file : ℕ) (e : Entry) → (E file e → EntryShown (Counts (LogOf c) f) file e) × (EntryShown (Counts (LogOf c) f) file e → E file e))
       → Collects xs flags f (length xs) (λ k. (e : Entry) × E k.file e) slots → KeysTold (Counts (LogOf c) f) AnyKey slots
   keys_told E slots same =
       collected_told (λ k. (e : Entry) × E k.file e) AnyKey slots (λ j k h s (e, there). (tt, lives_from k (object.Entry e) ((same k.file e).0 there)))

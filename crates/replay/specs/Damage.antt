@@ -1,13 +1,14 @@
 -- Which chips are damaged, and what reading any chip answers.
-use Rattle.std.specs.Prelude.{◌≡◌, ℕ, ◌-◌, ◌*◌, ◌<◌, ◌≤◌, true, false, List, length, take, Ok, Err, Result, slice_index}
+use Rattle.std.specs.Prelude.{◌≡◌, ℕ, ◌-◌, ◌*◌, ◌<◌, ◌≤◌, true, false, List, length, Ok, Err, Result, slice_index}
 use Rattle.flash.specs.declared.fault.FlashFault.TheVariants.{Off}
 use Rattle.flash.specs.Chip.{Chip}
+use Rattle.lookup.specs.Rows.{rows}
 use Rattle.tree.specs.declared.table.Tree.{Tree}
 use Rattle.tree.specs.Table.{nodes_of}
 use Rattle.tree.specs.Tree.{Rooted, Unreached, Namesakes}
 use Rattle.replay.specs.declared.fault.ReplayFault.{ReplayFault}
 use Rattle.replay.specs.declared.fault.ReplayFault.TheVariants.{WorkPage, Buffer, Blocks, Flash, Empty, Damaged}
-use Rattle.replay.specs.declared.slot.Slot.{Slot}
+use Rattle.object.specs.declared.slot.Slot.{Slot}
 use Rattle.replay.specs.declared.tables.Scan.{Scan}
 use Rattle.replay.specs.Entries.{EntryShown, TreeShown}
 use Rattle.replay.specs.Laws.{DataAt}
@@ -21,13 +22,13 @@ use Rattle.replay.specs.Tops.{BlockTop}
 pub data NoTree (C : Log) : Type 0 where
   unreached : Unreached (EntryShown C) → NoTree C
   namesakes : Namesakes (EntryShown C) → NoTree C
-  many_entries : (slots : List Slot) → KeysTold C EntryKey slots → 60 < length slots → NoTree C
+  many_entries : (slots : List (Slot ℕ)) → KeysTold C EntryKey slots → 60 < length slots → NoTree C
 
 -- what the pages C show makes no sense
 pub data Senseless (C : Log) (limit : ℕ) : Type 0 where
   no_tree : NoTree C → Senseless C limit
   overrun : Overrun C → Senseless C limit
-  many_keys : (slots : List Slot) → KeysTold C AnyKey slots → limit < length slots → Senseless C limit
+  many_keys : (slots : List (Slot ℕ)) → KeysTold C AnyKey slots → limit < length slots → Senseless C limit
 
 -- the most keys that a chip may tell
 abbrev pub key_limit : Chip → ℕ
@@ -49,8 +50,8 @@ abbrev pub FewBlocks : Chip → Type 0
 FewBlocks c = (4 ≤ c.blocks) × (c.blocks ≤ 16)
 
 -- the keys of a scan, and each block's highest number
-abbrev pub slots_of : Scan → List Slot
-slots_of s = take s.len s.slots
+abbrev pub slots_of : Scan → List (Slot ℕ)
+slots_of s = rows s.slots
 
 abbrev pub tops_of : Scan → ℕ → ℕ
 tops_of s b = slice_index s.tops b

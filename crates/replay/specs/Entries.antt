@@ -14,7 +14,7 @@ use Rattle.tree.specs.declared.table.Tree.{Tree}
 use Rattle.tree.specs.Table.{nodes_of}
 use Rattle.tree.specs.Tree.{Entries, Among}
 use Rattle.replay.specs.declared.fault.ReplayFault.{ReplayFault}
-use Rattle.replay.specs.declared.slot.Slot.{Slot}
+use Rattle.object.specs.declared.slot.Slot.{Slot}
 use Rattle.replay.specs.Log.{Log, entry_key, Shown}
 
 -- the entries that the pages C show
@@ -53,16 +53,16 @@ ReadsEntry c place (Ok e) = EntryPage c place e
 ReadsEntry c place (Err fault) = ⊥
 
 -- the files of the slots rise
-abbrev pub RisingFiles : List Slot → Type 0
-RisingFiles slots = (i j : ℕ) (d : Slot) → i < j → j < length slots → (slice_index_or slots i d).key.file < (slice_index_or slots j d).key.file
+abbrev pub RisingFiles : List (Slot ℕ) → Type 0
+RisingFiles slots = (i j : ℕ) (d : Slot ℕ) → i < j → j < length slots → (slice_index_or slots i d).key.file < (slice_index_or slots j d).key.file
 
 -- the nodes are the entries at the places of the first n slots, each under its slot's file
-pub record EntriesAt (c : Chip) (slots : List Slot) (n : ℕ) (nodes : List Node) : Type 0 where
+pub record EntriesAt (c : Chip) (slots : List (Slot ℕ)) (n : ℕ) (nodes : List Node) : Type 0 where
   pub count : length nodes ≡ n
-  pub each : (file : ℕ) (e : Entry) → Among nodes file e → (i : ℕ) × (i < n) × ((d : Slot) → ((slice_index_or slots i d).key.file ≡ file) × EntryPage c (slice_index_or slots i d).place e)
-  pub all : (i : ℕ) (d : Slot) (e : Entry) → i < n → EntryPage c (slice_index_or slots i d).place e → Among nodes (slice_index_or slots i d).key.file e
+  pub each : (file : ℕ) (e : Entry) → Among nodes file e → (i : ℕ) × (i < n) × ((d : Slot ℕ) → ((slice_index_or slots i d).key.file ≡ file) × EntryPage c (slice_index_or slots i d).place e)
+  pub all : (i : ℕ) (d : Slot ℕ) (e : Entry) → i < n → EntryPage c (slice_index_or slots i d).place e → Among nodes (slice_index_or slots i d).key.file e
 
 -- the tree of all of them, and no refusal
-abbrev pub ReadsTree : Chip → List Slot → Result Tree ReplayFault → Type 0
+abbrev pub ReadsTree : Chip → List (Slot ℕ) → Result Tree ReplayFault → Type 0
 ReadsTree c slots (Ok tree) = EntriesAt c slots (length slots) (nodes_of tree)
 ReadsTree c slots (Err fault) = ⊥

@@ -4,7 +4,7 @@ use Rattle.object.specs.declared.key.Key.{Key}
 use Rattle.object.specs.declared.value.Object.{Object}
 use Rattle.page.specs.declared.fields.Entry.{Entry}
 use Rattle.tree.specs.Tree.{Entries}
-use Rattle.replay.specs.declared.slot.Slot.{Slot}
+use Rattle.object.specs.declared.slot.Slot.{Slot}
 use Rattle.replay.specs.Entries.{EntryShown}
 use Rattle.replay.specs.Log.{Log, chunk_key, Shown}
 
@@ -26,5 +26,5 @@ pub record Overruns (E : Entries) (k : Key) : Type 0 where
   pub past : entry.length ≤ (k.part - 1) * 224
 
 -- and of a slot's key
-abbrev pub OverrunIn : Entries → List Slot → Type 0
-OverrunIn E slots = (i : ℕ) × (i < length slots) × ((d : Slot) → Overruns E (slice_index_or slots i d).key)
+abbrev pub OverrunIn : Entries → List (Slot ℕ) → Type 0
+OverrunIn E slots = (i : ℕ) × (i < length slots) × ((d : Slot ℕ) → Overruns E (slice_index_or slots i d).key)

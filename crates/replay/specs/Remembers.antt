@@ -1,7 +1,10 @@
 -- The data pages of a chip, remembered in rising order of numbers, or why they cannot be.
-use Rattle.std.specs.Prelude.{⊤, ◌≡◌, ℕ, ◌+◌, ◌<◌, ◌≤◌, true, false, ◌⊎◌, List, length, take, Ok, Err, Result, ◌≢◌, slice_index_or}
+use Rattle.std.specs.Prelude.{⊤, ◌≡◌, ℕ, ◌<◌, true, false, ◌⊎◌, List, length, Ok, Err, Result, ◌≢◌, slice_index_or}
 use Rattle.flash.specs.declared.fault.FlashFault.TheVariants.{Off}
 use Rattle.flash.specs.Chip.{Chip, page}
+use Rattle.lookup.specs.declared.sorted.Ranked.{Ghosts}
+use Rattle.lookup.specs.declared.table.Table.{Table}
+use Rattle.lookup.specs.Rows.{rows}
 use Rattle.lookup.specs.Sorts.{InPlace}
 use Rattle.page.specs.declared.fields.Page.{Page}
 use Rattle.page.specs.declared.fields.PageFault.{PageFault}
@@ -29,25 +32,25 @@ abbrev pub Twice : Chip → Type 0
 Twice c = (p : Logged) × (q : Logged) × LogOf c p × LogOf c q × (number_of p ≡ number_of q) × (p.place ≢ q.place)
 
 -- one page more: remembered if it is data, passed over if it is none, refused if it cannot be read or its number is taken
-abbrev pub TakesIn : List Seen → ℕ → ℕ → Result Page PageFault → Result ℕ ReplayFault → List Seen → Type 0
-TakesIn before len place (Ok pg) (Ok n) after = (n ≡ len + 1) × InPlace seen_number (take len before) (seen_of (record { place = place; page = pg })) (take (len + 1) after)
-TakesIn before len place (Ok pg) (Err e) after = (e ≡ Damaged) × (len < length before) × ((at : ℕ) × (at < len) × ((d : Seen) → seen_number (slice_index_or before at d) ≡ number_of (record { place = place; page = pg })))
-TakesIn before len place (Err NotData) (Ok n) after = (n ≡ len) × (after ≡ before)
-TakesIn before len place (Err NotData) (Err e) after = ⊥
-TakesIn before len place (Err OutOfRange) (Ok n) after = ⊥
-TakesIn before len place (Err OutOfRange) (Err e) after = e ≡ Damaged
+abbrev pub TakesIn : List Seen → ℕ → Result Page PageFault → Result (Unit {0}) ReplayFault → List Seen → Type 0
+TakesIn before place (Ok pg) (Ok _) after = InPlace seen_number before (seen_of (record { place = place; page = pg })) after
+TakesIn before place (Ok pg) (Err e) after = (e ≡ Damaged) × ((at : ℕ) × (at < length before) × ((d : Seen) → seen_number (slice_index_or before at d) ≡ number_of (record { place = place; page = pg })))
+TakesIn before place (Err NotData) (Ok _) after = after ≡ before
+TakesIn before place (Err NotData) (Err e) after = ⊥
+TakesIn before place (Err OutOfRange) (Ok _) after = ⊥
+TakesIn before place (Err OutOfRange) (Err e) after = e ≡ Damaged
 
 -- all data pages are remembered; or power is off; or one cannot be read, or two have one number
-abbrev pub GathersAll : Chip → Result ℕ ReplayFault → List Seen → Type 0
-GathersAll c (Ok n) seen = (n ≤ length seen) × Remembers c (length c.pages) (take n seen)
-GathersAll c (Err WorkPage) seen = ⊥
-GathersAll c (Err Buffer) seen = ⊥
-GathersAll c (Err Blocks) seen = ⊥
-GathersAll c (Err (Flash report)) seen = (report ≡ Off) × (c.on ≡ false)
-GathersAll c (Err Empty) seen = ⊥
-GathersAll c (Err Damaged) seen = (c.on ≡ true) × (Unreadable c ⊎ Twice c)
+abbrev pub GathersAll : {g : Ghosts Seen} → Chip → Result (Table Seen 256 g) ReplayFault → Type 0
+GathersAll c (Ok seen) = Remembers c (length c.pages) (rows seen)
+GathersAll c (Err WorkPage) = ⊥
+GathersAll c (Err Buffer) = ⊥
+GathersAll c (Err Blocks) = ⊥
+GathersAll c (Err (Flash report)) = (report ≡ Off) × (c.on ≡ false)
+GathersAll c (Err Empty) = ⊥
+GathersAll c (Err Damaged) = (c.on ≡ true) × (Unreadable c ⊎ Twice c)
 
 -- where pages were remembered, power is on unless there is no page at all
-abbrev pub Powered : Chip → Result ℕ ReplayFault → Type 0
-Powered c (Ok n) = 0 < length c.pages → c.on ≡ true
+abbrev pub Powered : {g : Ghosts Seen} → Chip → Result (Table Seen 256 g) ReplayFault → Type 0
+Powered c (Ok seen) = 0 < length c.pages → c.on ≡ true
 Powered c (Err e) = ⊤

@@ -22,6 +22,14 @@ pub record ShowsAt (xs : List Seen) (flags : List Bool) (f i : ℕ) (k : Key) : 
   pub sets : (d : Seen) → (get_or xs i d).says ≡ Sets k
   pub newest : (j : ℕ) (d : Seen) → i < j → j < length xs → CountedAt xs flags f j → SaidTo (get_or xs j d).says k → ⊥
 
+-- the page at i counts and speaks to the key
+abbrev pub SpeaksAt : List Seen → List Bool → ℕ → ℕ → Key → Type 0
+SpeaksAt xs flags f i k = CountedAt xs flags f i × ((d : Seen) → SaidTo (slice_index_or xs i d).says k)
+
+-- and so does a page after the one at i
+abbrev pub SpokenAfter : List Seen → List Bool → ℕ → ℕ → Key → Type 0
+SpokenAfter xs flags f i k = (j : ℕ) × (i < j) × (j < length xs) × SpeaksAt xs flags f j k
+
 -- the key that the page at i shows, exactly where it shows one
 abbrev pub Shows : List Seen → List Bool → ℕ → ℕ → Option Key → Type 0
 Shows xs flags f i None = (k : Key) → ShowsAt xs flags f i k → ⊥

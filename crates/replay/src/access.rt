@@ -10,16 +10,13 @@ impl Scan {
     pub fn keys(&self) -> &[Slot]
         ensures { result.now ≡ slots_of self.now }
     {
-        &self.slots[0..self.len]
+        self.slots.as_slice()
     }
 
     /// The highest number of a block's data pages, 0 where it has none.
     pub fn block_top(&self, block: usize) -> u32
         ensures { result ≡ tops_of self.now block }
     {
-        match self.tops.get(block) {
-            Some(top) => *top,
-            None => 0,
-        }
+        self.tops.get(block).copied().unwrap_or(0)
     }
 }

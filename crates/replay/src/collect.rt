@@ -1,70 +1,65 @@
 // The slots of a chip, from its remembered pages.
-ghost use Rattle.std.specs.Prelude.{◌≡◌, ℕ, ◌+◌, ◌<◌, ◌≤◌, length, take, ◌≢◌, slice_index_or};
+ghost use Rattle.std.specs.Prelude.{◌≡◌, ℕ, ◌<◌, ◌≤◌, length, ◌≢◌, slice_index_or};
+ghost use Rattle.lookup.specs.Rows.{rows};
 ghost use Rattle.lookup.specs.Sorts.{InPlace};
 ghost use Rattle.object.specs.Rank.{key_rank};
+ghost use Rattle.object.specs.declared.slot.Slot.{Slot as Place};
 ghost use Rattle.replay.specs.Slots.{Collects, ShowsWanted, slot_at, slot_rank, SmallParts};
-ghost use Rattle.replay.specs.declared.slot.Slot.{Slot as Place};
 
+use crate::pages::Pages;
 use crate::seen::Seen;
-use crate::shows::shows;
 use crate::slot::Slot;
+use crate::tables::PAGE_LIMIT;
 use crate::wants::Wants;
-use lookup::{Placed, insert_sorted};
+use lookup::Table;
 use object::Key;
 
-// Puts a key that is not there yet among the first `len` slots.
-fn put_slot(slots: &mut [Slot], len: usize, key: Key, page: &Seen)
-    requires room { len < length slots.old }
-    requires new { (i : ℕ) (d : Place) → i < len → slot_rank (slice_index_or slots.old i d) ≢ key_rank key }
-    ensures { InPlace slot_rank (take len slots.old) (slot_at key page.now) (take (len + 1) slots.new) }
+// What fills a table past its slots.
+const NO_SLOT: Slot = Slot {
+    key: Key { file: 0, part: 0 },
+    place: 0,
+    number: 0,
+};
+
+// Puts a key that is not there yet among the slots.
+fn put_slot(slots: &mut Table<Slot, PAGE_LIMIT>, key: Key, page: &Seen)
+    requires room { length (rows slots.old) < 256 }
+    requires new { (i : ℕ) (d : Place ℕ) → i < length (rows slots.old) → slot_rank (slice_index_or (rows slots.old) i d) ≢ key_rank key }
+    ensures { InPlace slot_rank (rows slots.old) (slot_at key page.now) (rows slots.new) }
 {
     let slot = Slot {
         key,
         place: page.place,
         number: page.header.number,
     };
-    match insert_sorted(slots, len, slot) {
-        Placed::Put => {}
-        Placed::Taken => unreachable(),
-        Placed::Full => unreachable(),
+    match slots.insert(slot) {
+        Ok(()) => {}
+        Err(_) => unreachable(),
     }
 }
 
-// The key that the page at `i` shows, where it is wanted.
-fn wanted_at<W: Wants>(
-    seen: &[Seen],
-    flags: &[bool],
-    floor: u32,
-    i: usize,
-    wants: &W,
-) -> Option<Key>
-    requires { (i < length seen.now) × (length seen.now ≤ length flags.now) }
-    ensures { ShowsWanted seen.now flags.now floor i (W.Wants.wanted wants.now) result }
-{
-    let Some(key) = shows(seen, flags, floor, i) else {
-        return None;
-    };
-    if wants.wants(&key) { Some(key) } else { None }
-}
+impl Pages<'_> {
+    // The key that the page at `i` shows, where it is wanted.
+    fn shows_wanted<W: Wants>(&self, i: usize, wants: &W) -> Option<Key>
+        requires { i < length self.now.seen.now }
+        ensures { ShowsWanted self.now.seen.now self.now.whole.now self.now.floor i (W.Wants.wanted wants.now) result }
+    {
+        let key = self.shows(i)?;
+        if wants.wants(&key) { Some(key) } else { None }
+    }
 
-// The wanted keys of those that are shown, in rising order.
-pub(crate) fn collect<W: Wants>(
-    seen: &[Seen],
-    flags: &[bool],
-    floor: u32,
-    wants: &W,
-    slots: &mut [Slot],
-) -> usize
-    requires { (length seen.now ≤ length flags.now) × (length seen.now ≤ length slots.old) × SmallParts seen.now }
-    ensures within { result ≤ length seen.now }
-    ensures collects { Collects seen.now flags.now floor (length seen.now) (W.Wants.wanted wants.now) (take result slots.new) }
-{
-    let mut len = 0;
-    for i in 0..seen.len() {
-        if let Some(key) = wanted_at(seen, flags, floor, i, wants) {
-            put_slot(slots, len, key, &seen[i]);
-            len += 1;
+    // The wanted keys of those that are shown, in rising order.
+    pub(crate) fn collect<W: Wants>(&self, wants: &W) -> Table<Slot, PAGE_LIMIT>
+        requires room { length self.now.seen.now ≤ 256 }
+        requires small { SmallParts self.now.seen.now }
+        ensures { Collects self.now.seen.now self.now.whole.now self.now.floor (length self.now.seen.now) (W.Wants.wanted wants.now) (rows result) }
+    {
+        let mut slots = Table::new(NO_SLOT);
+        for (i, page) in self.seen.iter().enumerate() {
+            if let Some(key) = self.shows_wanted(i, wants) {
+                put_slot(&mut slots, key, page);
+            }
         }
+        slots
     }
-    len
 }

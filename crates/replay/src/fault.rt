@@ -1,12 +1,14 @@
 // Why a chip shows nothing.
 ghost use Rattle.std.specs.Prelude.{◌≡◌};
-ghost use Rattle.replay.specs.Faults.{number_of_fault};
-ghost use Rattle.replay.specs.declared.fault.ReplayFault.TheVariants.{Flash};
+ghost use Rattle.replay.specs.Faults.{number_of_fault, refusal_of};
+ghost use Rattle.replay.specs.declared.fault.ReplayFault.TheVariants.{Damaged, Flash};
 
 use flash::FlashFault;
+use lookup::Unplaced;
+use tree::TreeFault;
 
 /// What a reader of a chip answers in place of its files.
-#[derive(Clone, Copy)]
+#[derive(Clone, Copy, PartialEq, Eq, Debug)]
 pub enum ReplayFault {
     /// The working page has not 256 bytes.
     WorkPage,
@@ -43,5 +45,27 @@ impl From<FlashFault> for ReplayFault {
 
     fn from(value: FlashFault) -> ReplayFault {
         ReplayFault::Flash(value)
+    }
+}
+
+impl From<Unplaced> for ReplayFault {
+    ghost from_gives = { λ x y. y ≡ refusal_of x };
+
+    fn from(value: Unplaced) -> ReplayFault {
+        match value {
+            Unplaced::Taken => ReplayFault::Damaged,
+            Unplaced::Full => ReplayFault::Blocks,
+        }
+    }
+}
+
+// Entries that are no tree are damage.
+impl From<TreeFault> for ReplayFault {
+    ghost from_gives = { λ _ y. y ≡ Damaged };
+
+    fn from(value: TreeFault) -> ReplayFault {
+        match value {
+            TreeFault::Unreached | TreeFault::Namesakes => ReplayFault::Damaged,
+        }
     }
 }

@@ -1,51 +1,49 @@
 // Reading every page of a flash once, and remembering the data pages.
 ghost use Rattle.std.specs.Prelude.{◌≡◌, ◌<◌, ◌≤◌, true, length, IfOk};
-ghost use Rattle.page.specs.Decoded.{decoded};
+ghost use Rattle.lookup.specs.Rows.{rows};
 ghost use Rattle.page.specs.Fits.{fits as page_fits};
 ghost use Rattle.replay.specs.Remembers.{GathersAll, Powered, TakesIn};
 
 use crate::fault::ReplayFault;
-use crate::seen::{Seen, says_of};
+use crate::seen::{Says, Seen, says_of};
+use crate::tables::PAGE_LIMIT;
 use flash::{PAGE_BYTES, ReadFlash, page_count};
-use lookup::{Placed, insert_sorted};
-use page::{Page, PageFault, decode};
+use lookup::Table;
+use page::{Header, Page, PageFault, decode};
 
-// What the working page says.
-pub(crate) fn decode_work(work: &[u8]) -> Result<Page, PageFault>
-    requires { length work.now ≡ 256 }
-    ensures { result ≡ decoded work.now }
-{
-    match work.first_chunk::<PAGE_BYTES>() {
-        Some(bytes) => decode(bytes),
-        None => Err(PageFault::NotData),
-    }
-}
+// What fills a table past its pages.
+const NO_PAGE: Seen = Seen {
+    place: 0,
+    header: Header {
+        index: 0,
+        size: 0,
+        number: 0,
+        floor: 0,
+        file: 0,
+    },
+    says: Says::Nothing,
+};
 
-// Remembers what was read at `place` beside the first `len` pages, and answers how many there are now.
+// Remembers what was read at `place`.
 fn take_in(
-    seen: &mut [Seen],
-    len: usize,
+    seen: &mut Table<Seen, PAGE_LIMIT>,
     place: usize,
     read: Result<Page, PageFault>,
-) -> Result<usize, ReplayFault>
-    requires room { len < length seen.old }
+) -> Result<(), ReplayFault>
+    requires room { length (rows seen.old) < 256 }
     requires fit { IfOk read (λ page. page_fits page ≡ true) }
-    ensures { TakesIn seen.old len place read result seen.new }
+    ensures { TakesIn (rows seen.old) place read result (rows seen.new) }
 {
     match read {
         Ok(page) => {
-            let new = Seen {
+            seen.insert(Seen {
                 place,
                 header: page.header,
                 says: says_of(&page),
-            };
-            match insert_sorted(seen, len, new) {
-                Placed::Put => Ok(len + 1),
-                Placed::Taken => Err(ReplayFault::Damaged),
-                Placed::Full => Err(ReplayFault::Blocks),
-            }
+            })?;
+            Ok(())
         }
-        Err(PageFault::NotData) => Ok(len),
+        Err(PageFault::NotData) => Ok(()),
         Err(PageFault::OutOfRange) => Err(ReplayFault::Damaged),
     }
 }
@@ -53,18 +51,16 @@ fn take_in(
 // Reads every page once and remembers the data pages, by rising number.
 pub(crate) fn gather<F: ReadFlash>(
     flash: &F,
-    work: &mut [u8],
-    seen: &mut [Seen],
-) -> Result<usize, ReplayFault>
-    requires page { length work.old ≡ 256 }
-    requires room { length (F.ReadFlash.chip flash.now).pages ≤ length seen.old }
-    ensures answer { GathersAll (F.ReadFlash.chip flash.now) result seen.new }
+    work: &mut [u8; PAGE_BYTES],
+) -> Result<Table<Seen, PAGE_LIMIT>, ReplayFault>
+    requires { length (F.ReadFlash.chip flash.now).pages ≤ 256 }
+    ensures answer { GathersAll (F.ReadFlash.chip flash.now) result }
     ensures power { Powered (F.ReadFlash.chip flash.now) result }
 {
-    let mut len = 0;
+    let mut seen = Table::new(NO_PAGE);
     for place in 0..page_count(flash) {
         flash.read(place, work)?;
-        len = take_in(seen, len, place, decode_work(work))?;
+        take_in(&mut seen, place, decode(work))?;
     }
-    Ok(len)
+    Ok(seen)
 }

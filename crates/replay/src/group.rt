@@ -6,7 +6,7 @@ ghost use Rattle.page.specs.declared.fields.Header.{Header as Heading};
 use page::Header;
 
 /// A group is idle, part gathered or whole, and each page moves it on.
-#[derive(Clone, Copy)]
+#[derive(Clone, Copy, PartialEq, Eq, Debug)]
 pub enum Group {
     Idle,
     /// Its pages with an index below `next` have come, the newest of them numbered `last`.

@@ -13,6 +13,8 @@ mod group;
 mod laws;
 mod marks;
 mod overrun;
+mod pages;
+mod powered;
 mod scanning;
 mod seen;
 mod shows;

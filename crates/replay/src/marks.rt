@@ -10,9 +10,7 @@ fn flag_last(flags: &mut [bool], end: usize, size: usize)
     requires { (size ≤ end) × (end ≤ length flags.old) }
     ensures { Flagged flags.old (end - size) end flags.new }
 {
-    for i in end - size..end {
-        flags[i] = true;
-    }
+    flags[end - size..end].fill(true);
 }
 
 // Takes the pages by rising number, and flags those of each group that becomes whole.
@@ -23,8 +21,8 @@ pub(crate) fn mark(seen: &[Seen], flags: &mut [bool])
 {
     flags.fill(false);
     let mut group = Group::new();
-    for i in 0..seen.len() {
-        group.take(&seen[i].header);
+    for (i, page) in seen.iter().enumerate() {
+        group.take(&page.header);
         if let Group::Whole { size } = group {
             flag_last(flags, i + 1, size as usize);
         }

@@ -23,10 +23,5 @@ fn overruns(key: &Key, tree: &Tree) -> bool
 pub(crate) fn has_overrun(slots: &[Slot], tree: &Tree) -> bool
     ensures { Decides result (OverrunIn (Among (nodes_of tree.now)) slots.now) }
 {
-    for i in 0..slots.len() {
-        if overruns(&slots[i].key, tree) {
-            return true;
-        }
-    }
-    false
+    slots.iter().any(|slot| overruns(&slot.key, tree))
 }

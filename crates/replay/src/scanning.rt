@@ -4,22 +4,20 @@ ghost use Rattle.replay.specs.Damage.{FewBlocks, key_limit, Scans, ScansSeen, Tr
 ghost use Rattle.replay.specs.Marks.{Marks};
 ghost use Rattle.replay.specs.Remembers.{Remembers};
 ghost use Rattle.replay.specs.declared.fault.ReplayFault.TheVariants.{WorkPage};
-ghost use Rattle.work_page.specs.Lent.{Lent, Returned};
+ghost use Rattle.work_page.specs.Lent.{Lent, Returned, ones};
 
-use crate::collect::collect;
 use crate::entries::read_tree;
 use crate::fault::ReplayFault;
 use crate::gather::gather;
 use crate::marks::mark;
 use crate::overrun::has_overrun;
-use crate::seen::{Says, Seen};
-use crate::slot::Slot;
+use crate::pages::Pages;
+use crate::powered::PoweredFlash;
+use crate::seen::Seen;
 use crate::tables::{BLOCK_LIMIT, PAGE_LIMIT, Scan};
 use crate::tops::block_tops;
 use crate::wants::EntryKeys;
 use flash::{PAGE_BYTES, ReadFlash};
-use object::Key;
-use page::Header;
 use tree::{ENTRY_LIMIT, Tree};
 use work_page::Guard;
 
@@ -29,51 +27,25 @@ const LEAST_BLOCKS: usize = 4;
 /// The blocks' worth of pages that keys leave to the journal.
 const SPARE_BLOCKS: usize = 3;
 
-// What fills a table past its slots.
-const NO_SLOT: Slot = Slot {
-    key: Key { file: 0, part: 0 },
-    place: 0,
-    number: 0,
-};
-
-// What fills a table past its pages.
-const NO_PAGE: Seen = Seen {
-    place: 0,
-    header: Header {
-        index: 0,
-        size: 0,
-        number: 0,
-        floor: 0,
-        file: 0,
-    },
-    says: Says::Nothing,
-};
-
 // The entries that the remembered pages show, where they are a tree.
 fn shown_tree<F: ReadFlash>(
-    flash: &F,
-    work: &mut [u8],
-    seen: &[Seen],
-    flags: &[bool],
-    floor: u32,
+    powered: &PoweredFlash<F>,
+    work: &mut [u8; PAGE_BYTES],
+    pages: &Pages,
 ) -> Result<Tree, ReplayFault>
-    requires page { length work.old ≡ 256 }
-    requires on { (F.ReadFlash.chip flash.now).on ≡ true }
-    requires sizes { (length seen.now ≤ length flags.now) × (length seen.now ≤ 256) }
-    requires remembers { Remembers (F.ReadFlash.chip flash.now) (length (F.ReadFlash.chip flash.now).pages) seen.now }
-    requires marks { Marks seen.now flags.now }
-    ensures { Trees (F.ReadFlash.chip flash.now) floor result }
+    requires size { length pages.now.seen.now ≤ 256 }
+    requires remembers { Remembers (F.ReadFlash.chip powered.now.flash.now) (length (F.ReadFlash.chip powered.now.flash.now).pages) pages.now.seen.now }
+    requires marks { Marks pages.now.seen.now pages.now.whole.now }
+    ensures { Trees (F.ReadFlash.chip powered.now.flash.now) pages.now.floor result }
 {
-    let mut slots = [NO_SLOT; PAGE_LIMIT];
-    let len = collect(seen, flags, floor, &EntryKeys, &mut slots);
-    if len > ENTRY_LIMIT {
+    let found = pages.collect(&EntryKeys);
+    let slots = found.as_slice();
+    if slots.len() > ENTRY_LIMIT {
         return Err(ReplayFault::Damaged);
     }
-    let tree = read_tree(flash, work, &slots[0..len])?;
-    match tree.fault() {
-        None => Ok(tree),
-        Some(_) => Err(ReplayFault::Damaged),
-    }
+    let tree = read_tree(powered, work, slots)?;
+    tree.check()?;
+    Ok(tree)
 }
 
 // The most keys that the chip may tell.
@@ -84,31 +56,36 @@ fn key_limit<F: ReadFlash>(flash: &F) -> usize
 }
 
 // The tables of a chip whose data pages are remembered.
-fn scan_seen<F: ReadFlash>(flash: &F, work: &mut [u8], seen: &[Seen]) -> Result<Scan, ReplayFault>
-    requires page { length work.old ≡ 256 }
-    requires on { (F.ReadFlash.chip flash.now).on ≡ true }
-    requires few { FewBlocks (F.ReadFlash.chip flash.now) }
+fn scan_seen<F: ReadFlash>(
+    powered: &PoweredFlash<F>,
+    work: &mut [u8; PAGE_BYTES],
+    seen: &[Seen],
+) -> Result<Scan, ReplayFault>
+    requires few { FewBlocks (F.ReadFlash.chip powered.now.flash.now) }
     requires sizes { (0 < length seen.now) × (length seen.now ≤ 256) }
-    requires remembers { Remembers (F.ReadFlash.chip flash.now) (length (F.ReadFlash.chip flash.now).pages) seen.now }
-    ensures { ScansSeen (F.ReadFlash.chip flash.now) result }
+    requires remembers { Remembers (F.ReadFlash.chip powered.now.flash.now) (length (F.ReadFlash.chip powered.now.flash.now).pages) seen.now }
+    ensures { ScansSeen (F.ReadFlash.chip powered.now.flash.now) result }
 {
-    let mut flags = [false; PAGE_LIMIT];
-    mark(seen, &mut flags);
+    let mut whole = [false; PAGE_LIMIT];
+    mark(seen, &mut whole);
     let top = seen[seen.len() - 1].header;
-    let tree = shown_tree(flash, work, seen, &flags, top.floor)?;
-    let mut slots = [NO_SLOT; PAGE_LIMIT];
-    let len = collect(seen, &flags, top.floor, &tree, &mut slots);
-    if len > key_limit(flash) {
+    let pages = Pages {
+        seen,
+        whole: &whole,
+        floor: top.floor,
+    };
+    let tree = shown_tree(powered, work, &pages)?;
+    let slots = pages.collect(&tree);
+    if slots.as_slice().len() > key_limit(powered.flash) {
         return Err(ReplayFault::Damaged);
     }
-    if has_overrun(&slots[0..len], &tree) {
+    if has_overrun(slots.as_slice(), &tree) {
         return Err(ReplayFault::Damaged);
     }
     let mut tops = [0; BLOCK_LIMIT];
     block_tops(seen, F::block_pages(), &mut tops);
     Ok(Scan {
         slots,
-        len,
         tops,
         floor: top.floor,
         highest: top.number,
@@ -117,20 +94,28 @@ fn scan_seen<F: ReadFlash>(flash: &F, work: &mut [u8], seen: &[Seen]) -> Result<
 }
 
 // What the chip tells.
-fn read_chip<F: ReadFlash>(flash: &F, work: &mut [u8]) -> Result<Scan, ReplayFault>
-    requires { length work.old ≡ 256 }
+fn read_chip<F: ReadFlash>(flash: &F, work: &mut [u8; PAGE_BYTES]) -> Result<Scan, ReplayFault>
     ensures { Scans (F.ReadFlash.chip flash.now) result }
 {
     let blocks = flash.blocks();
     if blocks < LEAST_BLOCKS || blocks > BLOCK_LIMIT {
         return Err(ReplayFault::Blocks);
     }
-    let mut seen = [NO_PAGE; PAGE_LIMIT];
-    let len = gather(flash, work, &mut seen)?;
-    if len == 0 {
+    let found = gather(flash, work)?;
+    let seen = found.as_slice();
+    if seen.is_empty() {
         return Err(ReplayFault::Empty);
     }
-    scan_seen(flash, work, &seen[0..len])
+    scan_seen(&PoweredFlash { flash }, work, seen)
+}
+
+// The same, and nothing that was read stays in the working page.
+fn scan_page<F: ReadFlash>(flash: &F, page: &mut [u8; PAGE_BYTES]) -> Result<Scan, ReplayFault>
+    ensures answer { Scans (F.ReadFlash.chip flash.now) result }
+    ensures page { page.new ≡ ones 256 }
+{
+    let guard = Guard(page);
+    read_chip(flash, guard.0)
 }
 
 /// What the chip tells: the tables that a journal needs, or why there are none. Each page is read once,
@@ -139,9 +124,8 @@ pub fn scan<F: ReadFlash>(flash: &F, work: &mut [u8]) -> Result<Scan, ReplayFaul
     ensures answer { Lent work.old (Scans (F.ReadFlash.chip flash.now) result) (result ≡ Err WorkPage) }
     ensures work { Returned work.old work.new }
 {
-    if work.len() != PAGE_BYTES {
+    let Some(page) = work.as_mut_array() else {
         return Err(ReplayFault::WorkPage);
-    }
-    let guard = Guard(work);
-    read_chip(flash, guard.0)
+    };
+    scan_page(flash, page)
 }

@@ -8,7 +8,7 @@ use object::Key;
 use page::{Content, Header, Page};
 
 /// What a page says to its slot.
-#[derive(Clone, Copy)]
+#[derive(Clone, Copy, PartialEq, Eq, Debug)]
 pub enum Says {
     Nothing,
     Sets(Key),
@@ -16,7 +16,7 @@ pub enum Says {
 }
 
 /// A data page, without the bytes that it holds.
-#[derive(Clone, Copy)]
+#[derive(Clone, Copy, PartialEq, Eq, Debug)]
 pub struct Seen {
     pub place: usize,
     pub header: Header,

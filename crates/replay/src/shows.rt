@@ -1,17 +1,11 @@
 // Which of the remembered pages shows which key.
-ghost use Rattle.std.specs.Prelude.{◌≡◌, ◌<◌, ◌≤◌, length, Decides};
-ghost use Rattle.replay.specs.Shows.{CountedAt, SaidTo, Shows};
+ghost use Rattle.std.specs.Prelude.{◌≡◌, ◌<◌, length, Decides};
+ghost use Rattle.object.specs.declared.key.Key.{Key as Name};
+ghost use Rattle.replay.specs.Shows.{CountedAt, SaidTo, Shows, SpeaksAt, SpokenAfter};
 
-use crate::seen::{Says, Seen};
+use crate::pages::Pages;
+use crate::seen::Says;
 use object::Key;
-
-// Whether the page at `i` counts.
-fn counts(seen: &[Seen], flags: &[bool], floor: u32, i: usize) -> bool
-    requires { (i < length seen.now) × (length seen.now ≤ length flags.now) }
-    ensures { Decides result (CountedAt seen.now flags.now floor i) }
-{
-    flags[i] && floor <= seen[i].header.number
-}
 
 // Whether what is said is said to this key.
 fn said_to(says: Says, key: &Key) -> bool
@@ -24,21 +18,42 @@ fn said_to(says: Says, key: &Key) -> bool
     }
 }
 
-// The key that the page at `i` shows.
-pub(crate) fn shows(seen: &[Seen], flags: &[bool], floor: u32, i: usize) -> Option<Key>
-    requires { (i < length seen.now) × (length seen.now ≤ length flags.now) }
-    ensures { Shows seen.now flags.now floor i result }
-{
-    if !counts(seen, flags, floor, i) {
-        return None;
+impl Pages<'_> {
+    // Whether the page at `i` counts.
+    fn counts(&self, i: usize) -> bool
+        requires { i < length self.now.seen.now }
+        ensures { Decides result (CountedAt self.now.seen.now self.now.whole.now self.now.floor i) }
+    {
+        self.whole[i] && self.floor <= self.seen[i].header.number
     }
-    let Says::Sets(key) = seen[i].says else {
-        return None;
-    };
-    for j in i + 1..seen.len() {
-        if counts(seen, flags, floor, j) && said_to(seen[j].says, &key) {
+
+    // Whether the page at `i` counts and speaks to the key.
+    fn speaks(&self, i: usize, key: &Key) -> bool
+        requires { i < length self.now.seen.now }
+        ensures { Decides result (SpeaksAt self.now.seen.now self.now.whole.now self.now.floor i key.now) }
+    {
+        self.counts(i) && said_to(self.seen[i].says, key)
+    }
+
+    // Whether a page after the one at `i` counts and speaks to the key.
+    fn spoken_after(&self, i: usize, key: &Key) -> bool
+        requires { i < length self.now.seen.now }
+        ensures { Decides result (SpokenAfter self.now.seen.now self.now.whole.now self.now.floor i key.now) }
+    {
+        (i + 1..self.seen.len()).any(|j| self.speaks(j, key))
+    }
+
+    // The key that the page at `i` shows.
+    pub(crate) fn shows(&self, i: usize) -> Option<Key>
+        requires { i < length self.now.seen.now }
+        ensures { Shows self.now.seen.now self.now.whole.now self.now.floor i result }
+    {
+        let Says::Sets(key) = self.seen[i].says else {
+            return None;
+        };
+        if !self.counts(i) || self.spoken_after(i, &key) {
             return None;
         }
+        Some(key)
     }
-    Some(key)
 }

@@ -1,7 +1,8 @@
 // What a scan finds.
-ghost use Rattle.std.specs.Prelude.{◌≡◌, ◌≤◌, length};
+ghost use Rattle.std.specs.Prelude.{◌≡◌, length};
 
 use crate::slot::Slot;
+use lookup::Table;
 use tree::Tree;
 
 /// The most blocks of a chip that is shown.
@@ -13,8 +14,7 @@ pub const PAGE_LIMIT: usize = 256;
 /// The tables of a chip.
 #[derive(Drop)]
 pub struct Scan {
-    pub(crate) slots: [Slot; PAGE_LIMIT],
-    pub(crate) len: usize,
+    pub(crate) slots: Table<Slot, PAGE_LIMIT>,
     pub(crate) tops: [u32; BLOCK_LIMIT],
     /// The floor of the page with the highest number.
     pub floor: u32,
@@ -22,7 +22,5 @@ pub struct Scan {
     pub highest: u32,
     /// The entries.
     pub tree: Tree,
-    ghost room: { len ≤ 256 },
-    ghost long: { length slots ≡ 256 },
     ghost wide: { length tops ≡ 16 },
 }

@@ -13,7 +13,7 @@ pub(crate) fn block_tops(seen: &[Seen], per_block: usize, tops: &mut [u32])
     ensures { Tops seen.now per_block tops.new }
 {
     tops.fill(0);
-    for i in 0..seen.len() {
-        tops[seen[i].place / per_block] = seen[i].header.number;
+    for page in seen {
+        tops[page.place / per_block] = page.header.number;
     }
 }

@@ -33,9 +33,6 @@ impl Wants for Tree {
     ghost wanted = { λ t k. (e : Entry) × Among (nodes_of t) k.file e };
 
     fn wants(&self, key: &Key) -> bool {
-        match self.get(key.file) {
-            Some(_) => true,
-            None => false,
-        }
+        self.get(key.file).is_some()
     }
 }

@@ -1,25 +1,15 @@
 -- The entries of a table by rising file number: no file number has two.
 use Rattle.std.proofs.Common.{◌≡◌, ℕ, ◌<◌, List, [], length, get_or, sym, ap, ◌∙◌, arith}
 use native.Mathlib.Decide.{dec_lt, ℕ_discrete}
-use Rattle.std.proofs.lemmas.List.{length-take-le, get_or-take}
 use Rattle.page.specs.declared.fields.Entry.{Entry}
 use Rattle.page.specs.declared.fields.EntryKind.TheVariants.{File}
 use Rattle.tree.specs.declared.node.Node.{Node}
-use Rattle.tree.specs.declared.table.Tree.{Tree}
-use Rattle.tree.specs.Table.{nodes_of, file_of, Rising}
+use Rattle.tree.specs.Table.{file_of, Rising}
 use Rattle.tree.specs.Tree.{Among}
 
 -- any node, where only some node is needed
 abbrev pub nothing : Node
 nothing = record { file = 0; entry = record { directory = 0; kind = File; length = 0; name = record { len = 0; bytes = [] } } }
-
-pub long_of : (t : Tree) → length (nodes_of t) ≡ t.len
-long_of t = length-take-le t.len t.nodes (omega (arith, t.long, t.room))
-
-pub rising_of : (t : Tree) → Rising (nodes_of t)
-rising_of t i j d lt h =
-    let l : j < t.len = omega (arith, long_of t) in
-    omega (arith, ap file_of (get_or-take t.len t.nodes i d (omega arith)), ap file_of (get_or-take t.len t.nodes j d l), t.rising i j d (lt, l))
 
 -- one file number is that of one place
 pub one_place : (nodes : List Node) → Rising nodes → (i j : ℕ) (d : Node) → i < length nodes → j < length nodes → (get_or nodes i d).file ≡ (get_or nodes j d).file → i ≡ j

@@ -1,10 +1,11 @@
 // Which entries share a name.
-ghost use Rattle.std.specs.Prelude.{◌<◌, length, Decides};
-ghost use Rattle.tree.specs.Sound.{Repeated};
-ghost use Rattle.tree.specs.Table.{Rising};
+ghost use Rattle.std.specs.Prelude.{Decides};
+ghost use Rattle.tree.specs.Sound.{HasLike, Repeats};
+ghost use Rattle.tree.specs.Table.{nodes_of};
 ghost use Rattle.tree.specs.Tree.{Alike, Among, Namesakes};
 
 use crate::node::Node;
+use crate::table::Tree;
 use page::Entry;
 
 // Whether the two have one name in one directory.
@@ -14,28 +15,28 @@ fn alike(a: &Entry, b: &Entry) -> bool
     a.directory == b.directory && a.name == b.name
 }
 
-// Whether a later entry is like the one at `at`.
-fn repeated(nodes: &[Node], at: usize) -> bool
-    requires { at < length nodes.now }
-    ensures { Decides result (Repeated nodes.now at) }
+// Whether one of the nodes has the entry's name and directory.
+fn has_like(nodes: &[Node], entry: &Entry) -> bool
+    ensures { Decides result (HasLike nodes.now entry.now) }
 {
-    for j in at + 1..nodes.len() {
-        if alike(&nodes[at].entry, &nodes[j].entry) {
-            return true;
-        }
-    }
-    false
+    nodes.iter().any(|node| alike(entry, &node.entry))
 }
 
-// Whether two entries of one directory have one name.
-pub(crate) fn has_namesakes(nodes: &[Node]) -> bool
-    requires { Rising nodes.now }
-    ensures { Decides result (Namesakes (Among nodes.now)) }
+// Whether one of the nodes has the name and the directory of a later one.
+fn repeats(nodes: &[Node]) -> bool
+    ensures { Decides result (Repeats nodes.now) }
 {
-    for at in 0..nodes.len() {
-        if repeated(nodes, at) {
-            return true;
-        }
+    let [first, rest @ ..] = nodes else {
+        return false;
+    };
+    has_like(rest, &first.entry) || repeats(rest)
+}
+
+impl Tree {
+    // Whether two entries of one directory have one name.
+    pub(crate) fn has_namesakes(&self) -> bool
+        ensures { Decides result (Namesakes (Among (nodes_of self.now))) }
+    {
+        repeats(self.nodes())
     }
-    false
 }

@@ -1,10 +1,8 @@
 // What is wrong with a table.
-ghost use Rattle.tree.specs.Sound.{Faults};
+ghost use Rattle.tree.specs.Sound.{Checks};
 ghost use Rattle.tree.specs.Table.{nodes_of};
 ghost use Rattle.tree.specs.Tree.{Among};
 
-use crate::namesakes::has_namesakes;
-use crate::standing::rooted;
 use crate::table::Tree;
 
 /// Why the entries are no tree.
@@ -17,17 +15,16 @@ pub enum TreeFault {
 }
 
 impl Tree {
-    /// The first fault; none where every entry stands at a path and no directory has two of one name.
-    pub fn fault(&self) -> Option<TreeFault>
-        ensures { Faults (Among (nodes_of self.now)) result }
+    /// The first fault, where not every entry stands at a path, or a directory has two of one name.
+    pub fn check(&self) -> Result<(), TreeFault>
+        ensures { Checks (Among (nodes_of self.now)) result }
     {
-        let nodes = self.nodes();
-        if !rooted(nodes) {
-            return Some(TreeFault::Unreached);
+        if !self.is_rooted() {
+            return Err(TreeFault::Unreached);
         }
-        if has_namesakes(nodes) {
-            return Some(TreeFault::Namesakes);
+        if self.has_namesakes() {
+            return Err(TreeFault::Namesakes);
         }
-        None
+        Ok(())
     }
 }

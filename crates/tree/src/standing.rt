@@ -1,57 +1,50 @@
 // Which entries the root reaches.
 ghost use Rattle.std.specs.Prelude.{Decides};
 ghost use Rattle.tree.specs.Sound.{FindsDirectory, Roots};
-ghost use Rattle.tree.specs.Table.{Rising};
+ghost use Rattle.tree.specs.Table.{nodes_of};
 ghost use Rattle.tree.specs.Tree.{Among, Reached};
 
 use crate::node::Node;
-use lookup::find;
+use crate::table::Tree;
 use page::EntryKind;
 
 /// The most names of a path.
 const NAME_LIMIT: u8 = 8;
 
-// The directory with this file number.
-fn directory_at(nodes: &[Node], file: u32) -> Option<Node>
-    requires { Rising nodes.now }
-    ensures { FindsDirectory (Among nodes.now) file result }
-{
-    let Some(at) = find(nodes, &file) else {
-        return None;
-    };
-    match nodes[at].entry.kind {
-        EntryKind::Directory => Some(nodes[at]),
-        EntryKind::File => None,
-    }
-}
-
-// Whether the entry stands at a path of at most so many names.
-fn stands(nodes: &[Node], node: Node, names: u8) -> bool
-    requires rising { Rising nodes.now }
-    requires there { Among nodes.now node.file node.entry }
-    ensures { Decides result (Reached (Among nodes.now) names node.file) }
-{
-    if names == 0 {
-        return false;
-    }
-    if node.entry.directory == 0 {
-        return true;
-    }
-    match directory_at(nodes, node.entry.directory) {
-        Some(directory) => stands(nodes, directory, names - 1),
-        None => false,
-    }
-}
-
-// Whether every entry stands at a path.
-pub(crate) fn rooted(nodes: &[Node]) -> bool
-    requires { Rising nodes.now }
-    ensures { Roots (Among nodes.now) result }
-{
-    for i in 0..nodes.len() {
-        if !stands(nodes, nodes[i], NAME_LIMIT) {
-            return false;
+impl Tree {
+    // The directory with this file number.
+    fn directory(&self, file: u32) -> Option<Node>
+        ensures { FindsDirectory (Among (nodes_of self.now)) file result }
+    {
+        let entry = self.get(file)?;
+        match entry.kind {
+            EntryKind::Directory => Some(Node { file, entry }),
+            EntryKind::File => None,
         }
     }
-    true
+
+    // Whether the entry stands at a path of at most so many names.
+    fn stands(&self, node: &Node, names: u8) -> bool
+        ensures { Among (nodes_of self.now) node.now.file node.now.entry → Decides result (Reached (Among (nodes_of self.now)) names node.now.file) }
+    {
+        if names == 0 {
+            return false;
+        }
+        if node.entry.directory == 0 {
+            return true;
+        }
+        match self.directory(node.entry.directory) {
+            Some(directory) => self.stands(&directory, names - 1),
+            None => false,
+        }
+    }
+
+    // Whether every entry stands at a path.
+    pub(crate) fn is_rooted(&self) -> bool
+        ensures { Roots (Among (nodes_of self.now)) result }
+    {
+        self.nodes()
+            .iter()
+            .all(|node| self.stands(node, NAME_LIMIT))
+    }
 }

@@ -4,8 +4,8 @@ ghost use Rattle.tree.specs.Table.{Adds, nodes_of};
 ghost use Rattle.tree.specs.Tree.{Among, Gets};
 
 use crate::node::Node;
-use crate::table::{ENTRY_LIMIT, Tree};
-use lookup::{Placed, find, insert_sorted};
+use crate::table::Tree;
+use lookup::{Table, Unplaced, find};
 use page::{Entry, EntryKind, Name};
 
 // What fills the table past its entries.
@@ -28,27 +28,22 @@ impl Tree {
         ensures { nodes_of result ≡ [] }
     {
         Tree {
-            nodes: [filler(); ENTRY_LIMIT],
-            len: 0,
+            nodes: Table::new(filler()),
         }
     }
 
     /// Puts the entry under its file number; nothing changes where one has that number, or there is no room.
-    pub fn add(&mut self, file: u32, entry: Entry) -> Placed
+    pub fn add(&mut self, file: u32, entry: Entry) -> Result<(), Unplaced>
         ensures { Adds (nodes_of self.old) (record { file = file; entry = entry }) result (nodes_of self.new) }
     {
-        let placed = insert_sorted(&mut self.nodes, self.len, Node { file, entry });
-        if let Placed::Put = placed {
-            self.len += 1;
-        }
-        placed
+        self.nodes.insert(Node { file, entry })
     }
 
     /// The entries, by rising file number.
     pub fn nodes(&self) -> &[Node]
         ensures { result.now ≡ nodes_of self.now }
     {
-        &self.nodes[0..self.len]
+        self.nodes.as_slice()
     }
 
     /// The entry of this file, where there is one.
@@ -56,9 +51,7 @@ impl Tree {
         ensures { Gets (Among (nodes_of self.now)) file result }
     {
         let nodes = self.nodes();
-        match find(nodes, &file) {
-            Some(at) => Some(nodes[at].entry),
-            None => None,
-        }
+        let at = find(nodes, &file)?;
+        Some(nodes[at].entry)
     }
 }

@@ -1,4 +1,4 @@
-use Rattle.std.proofs.Common.{◌≡◌, ℕ, Some, None, Option, sym, ap, ◌∙◌, subst, arith}
+use Rattle.std.proofs.Common.{◌≡◌, ℕ, List, length, Some, None, Option, Result, Ok, sym, ap, ◌∙◌, subst, arith}
 use Rattle.flash.specs.Chip.{page}
 use Rattle.flash.proofs.Filling.{filled_whole}
 use Rattle.page.specs.declared.fields.Entry.{Entry}
@@ -14,18 +14,18 @@ none_some a e = let z : ◌≡◌ {A = ℕ} 0 1 = cc in omega arith
 
 pub unreachable-requires : goal.unreachable-requires
 unreachable-requires g c =
-    let chip = g.F.ReadFlash.chip c.args.flash.now in
+    let flash = c.args.powered.now.flash.now in
+    let chip = g.F.ReadFlash.chip c.args.powered.now.flash.now in
     let read = c.in_ok-read.ensures in
-    let whole = read.2 ∙ filled_whole c.args.work.now (page chip c.args.place) (c.requires.page ∙ sym ((g.F.ReadFlash.formed c.args.flash.now).wide c.args.place read.1)) in
-    none_some c.requires.entry.0
-    (c.in-None.ensures ∙ ap entry_read c.decode_work.ensures ∙ entry_page_reads chip c.args.place c.requires.entry.0 c.read.new.out whole c.requires.entry.1)
+    let whole = read.2 ∙ filled_whole c.args.work.now (page chip c.args.place) (c.told-work ∙ sym ((g.F.ReadFlash.formed flash).wide c.args.place read.1)) in
+    none_some c.requires.0 (c.in-None.ensures ∙ ap entry_read c.decode.ensures ∙ entry_page_reads chip c.args.place c.requires.0 c.read.new.out whole c.requires.1)
 
 pub returns : goal.returns
 returns g c =
-    let chip = g.F.ReadFlash.chip c.args.flash.now in
+    let flash = c.args.powered.now.flash.now in
+    let chip = g.F.ReadFlash.chip c.args.powered.now.flash.now in
     let read = c.in_ok-read.ensures in
-    let whole = read.2 ∙ filled_whole c.args.work.now (page chip c.args.place) (c.requires.page ∙ sym ((g.F.ReadFlash.formed c.args.flash.now).wide c.args.place read.1)) in
+    let whole = read.2 ∙ filled_whole c.args.work.now (page chip c.args.place) (c.told-work ∙ sym ((g.F.ReadFlash.formed flash).wide c.args.place read.1)) in
     subst (EntryPage chip c.args.place)
-    (sym (some_same c.in-Some.entry c.requires.entry.0
-    (c.in-Some.ensures ∙ ap entry_read c.decode_work.ensures ∙ entry_page_reads chip c.args.place c.requires.entry.0 c.read.new.out whole c.requires.entry.1)))
-    c.requires.entry.1
+    (sym (some_same c.in-Some.entry c.requires.0 (c.in-Some.ensures ∙ ap entry_read c.decode.ensures ∙ entry_page_reads chip c.args.place c.requires.0 c.read.new.out whole c.requires.1)))
+    c.requires.1

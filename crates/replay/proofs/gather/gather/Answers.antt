@@ -1,41 +1,40 @@
-use Rattle.std.proofs.Common.{Err, sym, ap, ◌∙◌, subst, arith}
+use Rattle.std.proofs.Common.{◌≡◌, length, Ok, Err, sym, ap, ◌∙◌, subst, arith}
 use Rattle.std.proofs.lemmas.Result.{err_from_is_err_and}
 use Rattle.flash.specs.Chip.{page}
 use Rattle.flash.proofs.Filling.{filled_whole}
+use Rattle.lookup.specs.Rows.{rows}
 use Rattle.page.specs.Decoded.{decoded}
-use Rattle.replay.specs.Remembers.{GathersAll, Powered}
+use Rattle.replay.specs.Remembers.{GathersAll, Remembers}
 use Rattle.replay.proofs.Remembering.{step_on, step_stops, read_fits}
 use Rattle.replay.proofs.gather.gather.Goals as goal
 
-pub take_in-requires : goal.take_in-requires
-take_in-requires g c =
-    let read = c.in_ok-read.ensures in
-    record { room = omega (arith, read.1, c.loop-place.invariant.0, c.requires.room); fit = read_fits c.read.new.out c.decode_work.result (sym c.decode_work.ensures) }
+pub take_in-requires-clause-fit : goal.take_in-requires-clause-fit
+take_in-requires-clause-fit g c = read_fits c.read.new.out c.decode.result (sym c.decode.ensures)
 
 pub loop-place-preserved : goal.loop-place-preserved
 loop-place-preserved g c =
     let chip = g.F.ReadFlash.chip c.args.flash.now in
     let formed = g.F.ReadFlash.formed c.args.flash.now in
     let read = c.in_ok-read.ensures in
-    let whole = read.2 ∙ filled_whole c.loop-place.work (page chip c.loop-place.place) (c.loop-place.auto.work ∙ c.requires.page ∙ sym (formed.wide c.loop-place.place read.1)) in
-    let (short, remembers) =
-    step_on chip c.loop-place.place c.loop-place.len c.in_ok-len.len c.loop-place.seen c.take_in.new.seen c.decode_work.result
-    (ap decoded (sym whole) ∙ sym c.decode_work.ensures) read.1 c.loop-place.invariant.0 c.loop-place.invariant.1 c.in_ok-len.ensures in
-    (short, remembers, λ some. read.0)
+    let whole = read.2 ∙ filled_whole c.loop-place.work (page chip c.loop-place.place) (c.loop-place.invariant.page ∙ sym (formed.wide c.loop-place.place read.1)) in
+    let step = step_on chip c.loop-place.place (rows c.loop-place.seen) (rows c.take_in.new.seen) c.decode.result
+    (ap decoded (sym whole) ∙ sym c.decode.ensures) read.1 c.loop-place.invariant.short c.loop-place.invariant.remembers c.in_ok-take_in.ensures in
+    record { page = omega (arith, c.read.auto.out, c.loop-place.invariant.page); short = step.0; remembers = step.1; powered = λ some. read.0 }
 
-pub returns-in_err-len-clause-answer : goal.returns-in_err-len-clause-answer
-returns-in_err-len-clause-answer g c =
+pub returns-in_err-take_in-clause-answer : goal.returns-in_err-take_in-clause-answer
+returns-in_err-take_in-clause-answer g c =
     let chip = g.F.ReadFlash.chip c.args.flash.now in
     let formed = g.F.ReadFlash.formed c.args.flash.now in
     let read = c.in_ok-read.ensures in
-    let whole = read.2 ∙ filled_whole c.loop-place.work (page chip c.loop-place.place) (c.loop-place.auto.work ∙ c.requires.page ∙ sym (formed.wide c.loop-place.place read.1)) in
-    let e = c.in_err-len.field-0.0 in
-    let stops = step_stops chip c.loop-place.place c.loop-place.len e c.loop-place.seen c.take_in.new.seen c.decode_work.result
-    (ap decoded (sym whole) ∙ sym c.decode_work.ensures) read.1 c.loop-place.invariant.1 c.in_err-len.ensures in
-    let back = err_from_is_err_and c.from_residual-in_err-len.result c.from_residual-in_err-len.ensures.1 in
-    subst (λ r. GathersAll chip r c.take_in.new.seen) (sym (back.1 ∙ ap Err (back.2 ∙ stops.0))) (read.0, stops.1)
+    let whole = read.2 ∙ filled_whole c.loop-place.work (page chip c.loop-place.place) (c.loop-place.invariant.page ∙ sym (formed.wide c.loop-place.place read.1)) in
+    let e = c.in_err-take_in.field-0.0 in
+    let stops = step_stops chip c.loop-place.place e (rows c.loop-place.seen) (rows c.take_in.new.seen) c.decode.result
+    (ap decoded (sym whole) ∙ sym c.decode.ensures) read.1 c.loop-place.invariant.remembers c.in_err-take_in.ensures in
+    let back = err_from_is_err_and c.from_residual-in_err-take_in.result c.from_residual-in_err-take_in.ensures.1 in
+    subst (GathersAll chip) (sym (back.1 ∙ ap Err (back.2 ∙ stops.0))) (read.0, stops.1)
 
-pub returns-in_err-len-clause-power : goal.returns-in_err-len-clause-power
-returns-in_err-len-clause-power g c =
-    let back = err_from_is_err_and c.from_residual-in_err-len.result c.from_residual-in_err-len.ensures.1 in
-    subst (λ r. Powered (g.F.ReadFlash.chip c.args.flash.now) r) (sym back.1) tt
+pub returns-clause-answer : goal.returns-clause-answer
+returns-clause-answer g c =
+    let chip = g.F.ReadFlash.chip c.args.flash.now in
+    let e : c.loop-place.place ≡ length (g.F.ReadFlash.chip c.args.flash.now).pages = omega arith in
+    subst (λ n. Remembers chip n (rows c.loop-place.seen)) e c.loop-place.invariant.remembers

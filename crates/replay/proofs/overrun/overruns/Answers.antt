@@ -3,7 +3,7 @@ use Rattle.std.proofs.lemmas.Bool.{leb-true, le-leb}
 use Rattle.page.specs.declared.fields.Entry.{Entry}
 use Rattle.tree.specs.Table.{nodes_of}
 use Rattle.tree.proofs.Deciding.{it_is_not}
-use Rattle.tree.proofs.Ordered.{one_entry, rising_of}
+use Rattle.tree.proofs.Ordered.{one_entry}
 use Rattle.replay.proofs.overrun.overruns.Goals as goal
 
 pub returns-in_default : goal.returns-in_default
@@ -16,5 +16,5 @@ returns-then-key-gt0 c =
     let tree = c.args.tree.now in (
       λ t. record { entry = e; there = c.in-Some.ensures; chunk = c.if-key-gt0.true; past = leb-true e.length ((k.part - 1) * 224) t },
       λ o. le-leb e.length ((k.part - 1) * 224)
-          (let same = one_entry (nodes_of tree) (rising_of tree) k.file e o.entry c.in-Some.ensures o.there in omega (arith, o.past, ap (λ (x : Entry). x.length) same)),
+          (let same = one_entry (nodes_of tree) tree.nodes.rising k.file e o.entry c.in-Some.ensures o.there in omega (arith, o.past, ap (λ (x : Entry). x.length) same)),
     )

@@ -1,0 +1,13 @@
+// The remembered pages, with what tells which of them count.
+ghost use Rattle.std.specs.Prelude.{◌≤◌, length};
+
+use crate::seen::Seen;
+
+/// The remembered pages by rising number, which of them have a complete group, and the floor.
+#[derive(Clone, Copy)]
+pub(crate) struct Pages<'a> {
+    pub(crate) seen: &'a [Seen],
+    pub(crate) whole: &'a [bool],
+    pub(crate) floor: u32,
+    ghost marked: { length seen.now ≤ length whole.now },
+}

@@ -1,4 +1,0 @@
-use Rattle.tree.proofs.standing.+stands.Given as goal
-
-abbrev pub decreases-stands : goal.decreases-stands
-decreases-stands l = l.names
