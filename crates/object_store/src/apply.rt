@@ -14,7 +14,6 @@ use crate::table_store::TableStore;
 impl<'a> TableStore<'a> {
     // Puts in the key that the change sets, unless the batch removes its file.
     fn settle(&mut self, changes: &[Change], change: &Change)
-        requires { self.old.len ≤ length self.old.places.now }
         ensures { HoldsNow self.old.places.now (settle_spec changes.now (take self.old.len self.old.places.now) change.now) self.new.len self.new.places.now }
     {
         match change {
@@ -34,7 +33,6 @@ impl<'a> TableStore<'a> {
 
     // Makes the batch of the map.
     pub(crate) fn make(&mut self, changes: &[Change])
-        requires within { self.old.len ≤ length self.old.places.now }
         requires rising { Rising (keys_of (take self.old.len self.old.places.now)) }
         requires order { (in_order changes.now ≡ true) × (Placeable changes.now) }
         requires room { length (after_batch (take self.old.len self.old.places.now) changes.now) ≤ length self.old.places.now }

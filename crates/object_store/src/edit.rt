@@ -1,7 +1,5 @@
 // Changes to a table whose first records are by rising key.
 ghost use Rattle.std.specs.Prelude.{◌≡◌, ◌<◌, ◌≤◌, length};
-ghost use Rattle.lookup.specs.Inserts.{Leads};
-ghost use Rattle.object.specs.Rank.{key_rank};
 ghost use Rattle.object_store.specs.Edits.{Puts, Spares, Unchanged};
 
 use crate::batch::removes;
@@ -21,6 +19,7 @@ pub fn put_record<R: OfKey + Copy>(records: &mut [R], len: usize, new: R) -> usi
     }
     let key = new.key();
     let rank = key.rank();
+    // Not `leading` of lookup: to ask that these records are `Ranked` would ask more of callers.
     let at = records[..len]
         .iter()
         .position(|record| record.key().rank() >= rank)

@@ -39,6 +39,7 @@ pub struct TableStore<'a> {
     // Lent, as there is no heap; the first ones hold the map.
     pub(crate) places: &'a mut [Kept],
     pub(crate) len: usize,
+    ghost within: { len ≤ length places.now },
 }
 
 impl<'a> TableStore<'a> {
@@ -53,7 +54,6 @@ impl<'a> TableStore<'a> {
 
     // The keys and what stands under them.
     fn map(&self) -> &[Kept]
-        requires { self.now.len ≤ length self.now.places.now }
         ensures { result.now ≡ take self.now.len self.now.places.now }
     {
         &self.places[..self.len]
