@@ -16,18 +16,14 @@ impl<'a> TableStore<'a> {
     fn settle(&mut self, changes: &[Change], change: &Change)
         ensures { HoldsNow self.old.places.now (settle_spec changes.now (take self.old.len self.old.places.now) change.now) self.new.len self.new.places.now }
     {
-        match change {
-            Change::Set(key, object) => {
-                if removes(changes, key.file) {
-                    return;
-                }
-                let kept = Kept {
-                    key: *key,
-                    object: *object,
-                };
-                self.len = put_record(self.places, self.len, kept);
-            }
-            Change::Remove(_) => {}
+        if let Change::Set(key, object) = change
+            && !removes(changes, key.file)
+        {
+            let kept = Kept {
+                key: *key,
+                object: *object,
+            };
+            self.len = put_record(self.places, self.len, kept);
         }
     }
 

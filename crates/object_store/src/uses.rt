@@ -24,6 +24,7 @@ pub fn count_entries<S: ObjectStore>(store: &S) -> Result<usize, ObjectFault>
     ensures { result ≡ told (S.ObjectStore.shelf store.now) (entries_in (keys_of (S.ObjectStore.shelf store.now).objects)) }
 {
     let mut entries = 0;
+    // A chain would have to carry the refusal that each key may be.
     for index in 0..store.count()? {
         if is_entry(store.key(index)?) {
             entries += 1;
