@@ -6,6 +6,8 @@ pub mod OpenMaking
 pub mod CopyMaking
 pub mod Batching
 pub mod Mounting
+pub mod Slotted
+pub mod Least
 pub mod Firsts
 pub mod Replacing
 pub mod Inserting

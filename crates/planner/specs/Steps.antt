@@ -1,5 +1,6 @@
 -- What comes next while room is made, and what a step does to the tables.
 use Rattle.std.specs.Prelude.{◌≡◌, ℕ, ◌+◌, ◌*◌, ◌^◌, ◌<◌, ◌≤◌, cond, ◌⊎◌, ◌≢◌, nat_lt, slice_index_or}
+use Rattle.object.specs.declared.key.Key.{Key}
 use Rattle.planner.specs.State.{State, Free, Lowest, old}
 use Rattle.planner.specs.Moves.{Carries}
 use Rattle.planner.specs.Room.{Room}
@@ -15,6 +16,11 @@ use Rattle.planner.specs.declared.tables.Tables.{Tables}
 -- the state of the tables
 abbrev pub state : Tables → State
 state t = shape t.slots t.high t.per t.blocks t.floor t.last t.head
+
+-- f is the lowest number that tells another key than this one
+pub record LowestBut (t : Tables) (key : Key) (f : ℕ) : Type 0 where
+  pub below : (k : ℕ) → k < t.slots.len → ((slice_index_or t.slots.items k blank).key ≢ key) → f ≤ (state t).number k
+  pub some : (k : ℕ) × (k < t.slots.len) × ((slice_index_or t.slots.items k blank).key ≢ key) × (f ≡ (state t).number k)
 
 -- another block is free too
 abbrev pub Another : State → ℕ → Type 0

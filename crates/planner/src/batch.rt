@@ -1,5 +1,5 @@
 // What the pages of a batch do to the slots.
-ghost use Rattle.std.specs.Prelude.{◌≡◌, ◌+◌, ◌^◌, ◌<◌, ◌≤◌, length};
+ghost use Rattle.std.specs.Prelude.{◌≡◌, ◌+◌, ◌^◌, ◌<◌, ◌≤◌, length, Decides};
 ghost use Rattle.planner.specs.Slots.{listed};
 ghost use Rattle.planner.specs.Written.{Said, Written};
 
@@ -10,6 +10,13 @@ use crate::slots::Slots;
 
 /// The most pages of a batch.
 pub const BATCH_PAGES: usize = 4;
+
+// Whether a group may have so many pages.
+pub(crate) fn is_group(g: usize) -> bool
+    ensures { Decides result ((1 ≤ g) × (g ≤ 4)) }
+{
+    (1..=BATCH_PAGES).contains(&g)
+}
 
 // What one page says, at this index of the block and with this number.
 fn say(slots: &mut Slots, page: Says, block: u8, index: u8, number: u32)

@@ -1,9 +1,11 @@
 // The lowest numbers, and the floors that follow from them.
-ghost use Rattle.std.specs.Prelude.{◌≡◌, ℕ, ◌+◌, ◌^◌, ◌<◌, ◌≤◌, MatchOption, ◌≢◌};
+ghost use Rattle.std.specs.Prelude.{◌≡◌, ℕ, ◌+◌, ◌^◌, ◌<◌, ◌≤◌, MatchOption, Decides, ◌≢◌, slice_index_or};
+ghost use Rattle.planner.specs.Shape.{blank};
 ghost use Rattle.planner.specs.State.{Lowest};
 ghost use Rattle.planner.specs.Moves.{Carries};
-ghost use Rattle.planner.specs.Steps.{state};
+ghost use Rattle.planner.specs.Steps.{state, LowestBut};
 
+use crate::slot::Slot;
 use crate::tables::Tables;
 
 impl Tables {
@@ -11,50 +13,27 @@ impl Tables {
     pub(crate) fn lowest(&self) -> Option<usize>
         ensures { MatchOption result (self.now.slots.len ≡ 0) (λ i. Lowest (state self.now) i) }
     {
-        if self.slots.len == 0 {
-            return None;
-        }
-        let mut best = 0;
-        for k in 0..self.slots.len {
-            if self.slots.items[k].number < self.slots.items[best].number {
-                best = k;
-            }
-        }
-        Some(best)
+        let slots = self.slots.as_slice().iter().enumerate();
+        slots.min_by_key(|(_, slot)| slot.number).map(|(k, _)| k)
     }
 
-    // Another key in the same block.
-    fn mate(&self, i: usize) -> Option<usize>
-        requires { i < self.now.slots.len }
-        ensures { MatchOption result ((k : ℕ) → k < self.now.slots.len → (k ≢ i) → (state self.now).block k ≢ (state self.now).block i) (λ k. (k < self.now.slots.len) × (k ≢ i) × ((state self.now).block k ≡ (state self.now).block i)) }
+    // Whether another key lies in the slot's block.
+    fn is_shared(&self, slot: &Slot) -> bool
+        ensures { Decides result ((k : ℕ) × (k < self.now.slots.len) × (((slice_index_or self.now.slots.items k blank).key ≢ slot.now.key) × ((state self.now).block k ≡ slot.now.block))) }
     {
-        let home = self.slots.items[i].block;
-        for k in 0..self.slots.len {
-            if k != i && self.slots.items[k].block == home {
-                return Some(k);
-            }
-        }
-        None
+        let mut slots = self.slots.as_slice().iter();
+        slots.any(|other| other.key != slot.key && other.block == slot.block)
     }
 
-    // The key with the lowest number of those but i, or i where there is no other.
-    fn lowest_but(&self, i: usize) -> usize
-        requires { i < self.now.slots.len }
-        ensures real { result < self.now.slots.len }
-        ensures least { (k : ℕ) → k < self.now.slots.len → (k ≢ i) → (result ≢ i) × ((state self.now).number result ≤ (state self.now).number k) }
+    // The lowest number that tells another key.
+    fn lowest_but(&self, slot: &Slot) -> Option<u32>
+        ensures { MatchOption result ((k : ℕ) → k < self.now.slots.len → (slice_index_or self.now.slots.items k blank).key ≡ slot.now.key) (λ f. LowestBut self.now slot.now.key f) }
     {
-        let mut best = i;
-        for k in 0..self.slots.len {
-            if k == i {
-                continue;
-            }
-            if best == i {
-                best = k;
-            } else if self.slots.items[k].number < self.slots.items[best].number {
-                best = k;
-            }
-        }
-        best
+        let slots = self.slots.as_slice().iter();
+        slots
+            .filter(|other| other.key != slot.key)
+            .map(|other| other.number)
+            .min()
     }
 
     // The floor that the copy of the key i carries.
@@ -63,16 +42,10 @@ impl Tables {
         requires fits { self.now.last + 1 < 2 ^ 32 }
         ensures { Carries (state self.now) i result }
     {
-        match self.mate(i) {
-            Some(_) => self.floor,
-            None => {
-                let j = self.lowest_but(i);
-                if j == i {
-                    self.last + 1
-                } else {
-                    self.slots.items[j].number
-                }
-            }
+        let slot = &self.slots.items[i];
+        if self.is_shared(slot) {
+            return self.floor;
         }
+        self.lowest_but(slot).unwrap_or(self.last + 1)
     }
 }

@@ -4,6 +4,7 @@ ghost use Rattle.planner.specs.State.{Sound};
 ghost use Rattle.planner.specs.Shape.{shape, used_of, Keeps};
 
 use crate::head::{Head, Phase};
+use crate::sizes::MOST_BLOCKS;
 use crate::slots::Slots;
 
 /// Which page tells which key, the highest number in each block, the floor and the last number, and the block being
@@ -11,7 +12,7 @@ use crate::slots::Slots;
 #[derive(Drop)]
 pub struct Tables {
     pub(crate) slots: Slots,
-    pub(crate) high: [u32; 16],
+    pub(crate) high: [u32; MOST_BLOCKS],
     /// The pages of a block.
     pub(crate) per: u8,
     pub(crate) blocks: u8,

@@ -8,7 +8,7 @@ pub invariant_of-result : goal.invariant_of-result
 invariant_of-result c =
     let slots = c.new.result in
     let none : slots.len ≡ 0 = sym (listed_long slots) ∙ ap length c.new.ensures in
-    let sizes : Sizes c.args.per_block c.args.blocks = record { wide = omega arith; slim = omega arith; tall = omega arith; small = omega arith } in
+    let sizes : Sizes c.args.per_block c.args.blocks = c.are_sizes.ensures.0 c.if-not-are_sizes.false in
     record {
       tall = refl;
       slim = sizes.slim;
