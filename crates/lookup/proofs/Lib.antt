@@ -1,3 +1,5 @@
 pub mod Insertion
+pub mod Putting
+pub mod Retaining
 pub mod Rotating
-pub mod Sorting
+pub mod Thinning

@@ -1,3 +1,4 @@
 pub mod Found
 pub mod Inserts
+pub mod Rows
 pub mod Sorts

@@ -3,8 +3,11 @@
 
 #![tactic(auto)]
 
+mod filling;
 mod search;
 mod sorted;
+mod table;
 
 pub use search::{Keyed, find};
-pub use sorted::{Placed, Ranked, insert_at, insert_sorted, leading};
+pub use sorted::{Ranked, Unplaced, insert_at, insert_sorted, leading, retain};
+pub use table::Table;

@@ -17,10 +17,5 @@ pub trait Keyed {
 pub fn find<R: Keyed>(records: &[R], key: &R::Key) -> Option<usize>
     ensures { Found R.Keyed.keyed records.now key.now result }
 {
-    for (i, record) in records.iter().enumerate() {
-        if record.has(key) {
-            return Some(i);
-        }
-    }
-    None
+    records.iter().position(|record| record.has(key))
 }

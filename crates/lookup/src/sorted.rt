@@ -1,5 +1,7 @@
 // Records in rising order, and putting one between others.
-ghost use Rattle.std.specs.Prelude.{◌≡◌, ℕ, Bool};
+ghost use Rattle.std.specs.Prelude.{◌≡◌, ℕ, ◌≤◌, length, take};
+ghost use Rattle.std.specs.Fn.{CalledAt};
+ghost use Rattle.std.specs.List.Retain.{IsFiltered};
 ghost use Rattle.lookup.specs.Inserts.{Inserts, Leads};
 ghost use Rattle.lookup.specs.Sorts.{Sorts};
 
@@ -11,51 +13,71 @@ pub trait Ranked {
         ensures { result ≡ ranked self.now };
 }
 
+/// Why a record is not put between others.
+#[derive(Clone, Copy, PartialEq, Eq, Debug)]
+pub enum Unplaced {
+    /// Another one has its rank.
+    Taken,
+    /// There is no room.
+    Full,
+}
+
 /// How many records lead, one after another, with a rank below this one.
 pub fn leading<R: Ranked>(records: &[R], rank: u64) -> usize
     ensures { Leads R.Ranked.ranked records.now rank result }
 {
-    for (i, record) in records.iter().enumerate() {
-        if record.rank() >= rank {
-            return i;
-        }
-    }
-    records.len()
+    records
+        .iter()
+        .position(|record| record.rank() >= rank)
+        .unwrap_or(records.len())
 }
 
-/// Puts `x` before the record at `at`, of the first `len` ones; false, and nothing changes, where there is no room.
-pub fn insert_at<T: Copy>(items: &mut [T], len: usize, at: usize, x: T) -> bool
+/// Puts `x` before the record at `at`, of the first `len` ones; nothing changes where there is no room.
+pub fn insert_at<T: Copy>(items: &mut [T], len: usize, at: usize, x: T) -> Result<(), Unplaced>
     ensures { Inserts items.old len at x result items.new }
 {
     if len >= items.len() || at > len {
-        return false;
+        return Err(Unplaced::Full);
     }
     items[len] = x;
     items[at..len + 1].rotate_right(1);
-    true
-}
-
-/// What became of a record that was to be put in its place.
-#[derive(Clone, Copy)]
-pub enum Placed {
-    Put,
-    /// Another one has its rank.
-    Taken,
-    Full,
+    Ok(())
 }
 
 /// Puts a record in its place among the first `len` ones, which rise.
-pub fn insert_sorted<R: Ranked + Copy>(records: &mut [R], len: usize, new: R) -> Placed
+pub fn insert_sorted<R: Ranked + Copy>(
+    records: &mut [R],
+    len: usize,
+    new: R,
+) -> Result<(), Unplaced>
     ensures { Sorts R.Ranked.ranked records.old len new result records.new }
 {
     if len >= records.len() {
-        return Placed::Full;
+        return Err(Unplaced::Full);
     }
     let rank = new.rank();
     let at = leading(&records[0..len], rank);
     if at < len && records[at].rank() == rank {
-        return Placed::Taken;
+        return Err(Unplaced::Taken);
     }
-    let _ = insert_at(records, len, at, new);
-    Placed::Put
+    insert_at(records, len, at, new)
+}
+
+/// Moves those of the first `len` items that are kept to the front, in their order; answers how many they are.
+pub fn retain<T: Copy, F: FnMut(&T) -> bool>(items: &mut [T], len: usize, mut keep: F) -> usize
+    requires { F.IsAlwaysCallable keep }
+    ensures kept { IsFiltered (CalledAt F.FnMut) keep (take len items.old) (take result items.new) }
+    ensures fewer { result ≤ len }
+    ensures long { length items.new ≡ length items.old }
+{
+    let mut left = 0;
+    // By index, since one table is read at one place and written at another.
+    for i in 0..len.min(items.len()) {
+        let item = items[i];
+        if keep(&item) {
+            items[left] = item;
+            left += 1;
+        }
+    }
+    left
 }
