@@ -13,10 +13,9 @@ use Rattle.planner.specs.Steps.{state}
 use Rattle.planner.specs.Written.{Speaks, slot_at, Written}
 use Rattle.planner.specs.declared.head.Head.{Head}
 use Rattle.planner.specs.declared.says.Says.{Says}
-use Rattle.planner.specs.declared.slot.Slot.{Slot}
+use Rattle.planner.specs.Order.{Slot}
 use Rattle.planner.specs.declared.slots.Slots.{Slots}
 use Rattle.planner.specs.declared.tables.Tables.{Tables}
-use Rattle.planner.proofs.Firsts.{listed_long}
 use Rattle.planner.proofs.Tally.{tally_marks}
 
 tally_all : (n : ℕ) → tally (λ k. true) n ≡ n
@@ -85,15 +84,14 @@ same_count xs xs' a pages m b u n b' u' n' ys ys' w w' =
 
 -- wherever the pages of a batch are written, they leave as many keys
 module _ (t : Tables) (pages : List Says) (block index number : ℕ) (after : Slots) (written : Written (listed t.slots) pages block index number (length pages) (listed after)) where
-  pub count_after : (ys : List Slot) → WrittenBy t pages ys → length ys ≡ after.len
+  pub count_after : (ys : List Slot) → WrittenBy t pages ys → length ys ≡ length (listed after)
   count_after ys w =
       same_count (listed t.slots) (listed t.slots) (alike_self (listed t.slots)) pages (length pages) (state t).head (state t).used (t.last + 1) block index number ys (listed after) w written
-      ∙ listed_long after
 
-  pub within : after.len ≤ limit t.per t.blocks → (ys : List Slot) → WrittenBy t pages ys → length ys ≤ limit t.per t.blocks
+  pub within : length (listed after) ≤ limit t.per t.blocks → (ys : List Slot) → WrittenBy t pages ys → length ys ≤ limit t.per t.blocks
   within l ys w = omega (arith, l, count_after ys w)
 
-  pub beyond : limit t.per t.blocks < after.len → (ys : List Slot) → WrittenBy t pages ys → limit t.per t.blocks < length ys
+  pub beyond : limit t.per t.blocks < length (listed after) → (ys : List Slot) → WrittenBy t pages ys → limit t.per t.blocks < length ys
   beyond l ys w = omega (arith, l, count_after ys w)
 
 -- the slots after the pages at a head that is there

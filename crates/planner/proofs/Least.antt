@@ -5,7 +5,7 @@ use Rattle.std.specs.List.{filter, fold, reduce}
 use Rattle.std.proofs.lemmas.Bool.{false≢true}
 use Rattle.std.proofs.Math.Nat.{min-le_left, min-le_right, min-eq_left, min-eq_right}
 use Rattle.planner.specs.Shape.{blank}
-use Rattle.planner.specs.declared.slot.Slot.{Slot}
+use Rattle.planner.specs.Order.{Slot}
 
 module _ (test : Slot → Bool) where
   abbrev pub numbers : List Slot → List ℕ

@@ -11,6 +11,7 @@ pub mod Least
 pub mod Firsts
 pub mod Replacing
 pub mod Inserting
+pub mod Putting
 pub mod Forgetting
 pub mod Batches
 pub mod Unique

@@ -1,6 +1,6 @@
 -- What a chain over the slots in use says of them by their index.
 use native.Mathlib.Decide.{ℕ_discrete}
-use Rattle.std.proofs.Common.{◌≡◌, ℕ, ◌+◌, ◌<◌, ◌≤◌, min, Bool, true, false, not, ◌&&◌, eqb, length, get_or, Option, Some, None, MatchOption, Decides, MatchBool, sym, refl, ap, ◌∙◌, subst, inl, inr, arith, rules, tests}
+use Rattle.std.proofs.Common.{◌≡◌, ℕ, ◌+◌, ◌<◌, min, Bool, true, false, not, ◌&&◌, eqb, length, get_or, Option, Some, None, MatchOption, Decides, MatchBool, sym, refl, ap, ◌∙◌, inl, inr, arith, rules, tests}
 use Rattle.object.specs.declared.key.Key.{Key}
 use Rattle.std.specs.Option.{unwrap_or, option_map}
 use Rattle.planner.specs.Moves.{Stays, Rises}
@@ -9,35 +9,26 @@ use Rattle.planner.specs.declared.tables.Tables.{Tables}
 use Rattle.planner.proofs.Least.{numbers, Bounds, Has, least_is}
 use Rattle.std.specs.List.{AllWithin, HoldsAt, reduce}
 use Rattle.std.proofs.lemmas.Bool.{false≢true}
-use Rattle.std.proofs.lemmas.List.{get_or-take}
 use Rattle.planner.specs.Shape.{blank}
 use Rattle.planner.specs.Slots.{listed}
-use Rattle.planner.specs.declared.slot.Slot.{Slot}
+use Rattle.planner.specs.Order.{Slot}
 use Rattle.planner.specs.declared.slots.Slots.{Slots}
-use Rattle.planner.proofs.Firsts.{listed_long, slot_rises, one_place}
+use Rattle.planner.proofs.Firsts.{the_rising, one_place}
 
 -- A holds wherever the slot stands
 abbrev pub Where : Slots → (ℕ → Type 0) → Slot → Type 0
-Where s A x = (k : ℕ) → k < s.len → get_or s.items k blank ≡ x → A k
+Where s A x = (k : ℕ) → k < length (listed s) → get_or (listed s) k blank ≡ x → A k
 
 module _ (s : Slots) (A : ℕ → Type 0) where
-  at : (k : ℕ) → k < s.len → get_or s.items k blank ≡ get_or (listed s) k blank
-  at k l = sym (get_or-take s.len s.items k blank l)
-
   pub each_slot : (r : Bool) → MatchBool r (AllWithin (Where s A) (listed s) 0 (length (listed s))) ((k : ℕ) × (k < length (listed s)) × HoldsAt (Where s (λ k. A k → ⊥)) (listed s) k)
-      → Decides r ((k : ℕ) → k < s.len → A k)
-  each_slot true h = (λ e k l. h k blank (omega arith) (omega (arith, listed_long s)) k l (at k l), λ w. refl)
-  each_slot false h =
-      let l : h.0 < s.len = omega (arith, h.1, listed_long s) in
-      (λ e. absurd (false≢true e), λ w. absurd (h.2 blank h.0 l (at h.0 l) (w h.0 l)))
+      → Decides r ((k : ℕ) → k < length (listed s) → A k)
+  each_slot true h = (λ e k l. h k blank (omega arith) l k l refl, λ w. refl)
+  each_slot false h = (λ e. absurd (false≢true e), λ w. absurd (h.2 blank h.0 h.1 refl (w h.0 h.1)))
 
   pub some_slot : (r : Bool) → MatchBool r ((k : ℕ) × (k < length (listed s)) × HoldsAt (Where s A) (listed s) k) (AllWithin (Where s (λ k. A k → ⊥)) (listed s) 0 (length (listed s)))
-      → Decides r ((k : ℕ) × (k < s.len) × A k)
-  some_slot true h =
-      let l : h.0 < s.len = omega (arith, h.1, listed_long s) in
-      (λ e. (h.0, l, h.2 blank h.0 l (at h.0 l)), λ w. refl)
-  some_slot false h =
-      (λ e. absurd (false≢true e), λ w. absurd (h w.0 blank (omega arith) (omega (arith, w.1, listed_long s)) w.0 w.1 (at w.0 w.1) w.2))
+      → Decides r ((k : ℕ) × (k < length (listed s)) × A k)
+  some_slot true h = (λ e. (h.0, h.1, h.2 blank h.0 h.1 refl), λ w. refl)
+  some_slot false h = (λ e. absurd (false≢true e), λ w. absurd (h w.0 blank (omega arith) w.1 w.0 w.1 refl w.2))
 
 module _ (t : Tables) (key : Key) where
   -- whether the slot tells another key
@@ -53,58 +44,47 @@ module _ (t : Tables) (key : Key) where
   together : (x : Slot) → differs x ≡ false → x.key ≡ key
   together x e = search (rules, tests)
 
-  abbrev s : Slots
-  s = t.slots
-
-  same : (k : ℕ) → k < s.len → get_or (listed s) k blank ≡ get_or s.items k blank
-  same k l = get_or-take s.len s.items k blank l
-
-  inside : (k : ℕ) → k < s.len → k < length (listed s)
-  inside k l = omega (arith, listed_long s)
-
   -- the least number of the others, by their index
-  pub least_but : (r : Option ℕ) → option_map (λ n. n) r ≡ reduce min (numbers differs (listed s))
-      → MatchOption r ((k : ℕ) → k < s.len → (get_or s.items k blank).key ≡ key) (λ f. LowestBut t key f)
-  least_but r e = by r (least_is differs (listed s) r (sym (plain r) ∙ e))
+  pub least_but : (r : Option ℕ) → option_map (λ n. n) r ≡ reduce min (numbers differs (listed t.slots))
+      → MatchOption r ((k : ℕ) → k < length (listed t.slots) → (get_or (listed t.slots) k blank).key ≡ key) (λ f. LowestBut t key f)
+  least_but r e = by r (least_is differs (listed t.slots) r (sym (plain r) ∙ e))
     where
       plain : (r : Option ℕ) → option_map (λ n. n) r ≡ r
       plain None = refl
       plain (Some m) = refl
 
-      by : (r : Option ℕ) → MatchOption r ((k : ℕ) → k < length (listed s) → differs (get_or (listed s) k blank) ≡ false) (λ m. Bounds differs (listed s) m × Has differs (listed s) m)
-          → MatchOption r ((k : ℕ) → k < s.len → (get_or s.items k blank).key ≡ key) (λ f. LowestBut t key f)
-      by None h = λ k l. subst (λ (x : Slot). x.key ≡ key) (same k l) (together (get_or (listed s) k blank) (h k (inside k l)))
+      by : (r : Option ℕ) → MatchOption r ((k : ℕ) → k < length (listed t.slots) → differs (get_or (listed t.slots) k blank) ≡ false) (λ m. Bounds differs (listed t.slots) m × Has differs (listed t.slots) m)
+          → MatchOption r ((k : ℕ) → k < length (listed t.slots) → (get_or (listed t.slots) k blank).key ≡ key) (λ f. LowestBut t key f)
+      by None h = λ k l. together (get_or (listed t.slots) k blank) (h k l)
       by (Some m) h =
-          let k = h.1.0 in
-          let l : k < s.len = omega (arith, h.1.1, listed_long s) in
           record {
-            below = λ i n ne. subst (λ (x : Slot). m ≤ x.number) (same i n) (h.0 i (inside i n) (passes (get_or (listed s) i blank) (subst (λ (x : Slot). x.key ≡ key → ⊥) (sym (same i n)) ne)));
-            some = (k, l, subst (λ (x : Slot). x.key ≡ key → ⊥) (same k l) (apart (get_or (listed s) k blank) h.1.2), h.1.3 ∙ ap (λ (x : Slot). x.number) (same k l));
+            below = λ i n ne. h.0 i n (passes (get_or (listed t.slots) i blank) ne);
+            some = (h.1.0, h.1.1, apart (get_or (listed t.slots) h.1.0 blank) h.1.2, h.1.3);
           }
 
 -- the slot that stands at i, and what the copy of its key carries
-module _ (t : Tables) (i : ℕ) (x : Slot) (is : get_or t.slots.items i blank ≡ x) where
+module _ (t : Tables) (i : ℕ) (x : Slot) (is : get_or (listed t.slots) i blank ≡ x) where
   abbrev Shared : Type 0
-  Shared = (k : ℕ) × (k < t.slots.len) × (((get_or t.slots.items k blank).key ≡ x.key → ⊥) × ((get_or t.slots.items k blank).block ≡ x.block))
+  Shared = (k : ℕ) × (k < length (listed t.slots)) × (((get_or (listed t.slots) k blank).key ≡ x.key → ⊥) × ((get_or (listed t.slots) k blank).place.block ≡ x.place.block))
 
-  not_here : (k : ℕ) → ((get_or t.slots.items k blank).key ≡ x.key → ⊥) → k ≡ i → ⊥
-  not_here k ne e = ne (ap (λ j. (get_or t.slots.items j blank).key) e ∙ ap (λ (y : Slot). y.key) is)
+  not_here : (k : ℕ) → ((get_or (listed t.slots) k blank).key ≡ x.key → ⊥) → k ≡ i → ⊥
+  not_here k ne e = ne (ap (λ j. (get_or (listed t.slots) j blank).key) e ∙ ap (λ (y : Slot). y.key) is)
 
   pub stays : Shared → Stays (state t) i t.floor
-  stays h = record { mate = h.0; real = h.1; other = not_here h.0 h.2.0; near = h.2.1 ∙ sym (ap (λ (y : Slot). y.block) is); same = refl }
+  stays h = record { mate = h.0; real = h.1; other = not_here h.0 h.2.0; near = h.2.1 ∙ sym (ap (λ (y : Slot). y.place.block) is); same = refl }
 
-  module _ (real : i < t.slots.len) where
-    elsewhere : (k : ℕ) → k < t.slots.len → (k ≡ i → ⊥) → (get_or t.slots.items k blank).key ≡ x.key → ⊥
-    elsewhere k l ne e = ne (one_place t.slots.items t.slots.len (slot_rises t.slots) k i l real (e ∙ sym (ap (λ (y : Slot). y.key) is)))
+  module _ (real : i < length (listed t.slots)) where
+    elsewhere : (k : ℕ) → k < length (listed t.slots) → (k ≡ i → ⊥) → (get_or (listed t.slots) k blank).key ≡ x.key → ⊥
+    elsewhere k l ne e = ne (one_place (listed t.slots) (the_rising t.slots) k i l real (e ∙ sym (ap (λ (y : Slot). y.key) is)))
 
-    pub rises : (r : Bool) → Decides r Shared → r ≡ false → (o : Option ℕ) → MatchOption o ((k : ℕ) → k < t.slots.len → (get_or t.slots.items k blank).key ≡ x.key) (λ f. LowestBut t x.key f)
+    pub rises : (r : Bool) → Decides r Shared → r ≡ false → (o : Option ℕ) → MatchOption o ((k : ℕ) → k < length (listed t.slots) → (get_or (listed t.slots) k blank).key ≡ x.key) (λ f. LowestBut t x.key f)
         → (f : ℕ) → f ≡ unwrap_or o (t.last + 1) → Rises (state t) i f
     rises r shared un o low f e = by o low e
       where
-        alone : (k : ℕ) → k < t.slots.len → (k ≡ i → ⊥) → (get_or t.slots.items k blank).block ≡ (get_or t.slots.items i blank).block → ⊥
-        alone k l ne b = false≢true (sym un ∙ shared.1 (k, l, (elsewhere k l ne, b ∙ ap (λ (y : Slot). y.block) is)))
+        alone : (k : ℕ) → k < length (listed t.slots) → (k ≡ i → ⊥) → (get_or (listed t.slots) k blank).place.block ≡ (get_or (listed t.slots) i blank).place.block → ⊥
+        alone k l ne b = false≢true (sym un ∙ shared.1 (k, l, (elsewhere k l ne, b ∙ ap (λ (y : Slot). y.place.block) is)))
 
-        by : (o : Option ℕ) → MatchOption o ((k : ℕ) → k < t.slots.len → (get_or t.slots.items k blank).key ≡ x.key) (λ f. LowestBut t x.key f) → f ≡ unwrap_or o (t.last + 1) → Rises (state t) i f
+        by : (o : Option ℕ) → MatchOption o ((k : ℕ) → k < length (listed t.slots) → (get_or (listed t.slots) k blank).key ≡ x.key) (λ f. LowestBut t x.key f) → f ≡ unwrap_or o (t.last + 1) → Rises (state t) i f
         by None low e =
             record {
               alone = alone;

@@ -10,7 +10,7 @@ use Rattle.planner.specs.declared.faults.BatchFault.{BatchFault}
 use Rattle.planner.specs.declared.faults.BatchFault.TheVariants.{Size, Spent, NoRoom, Full}
 use Rattle.planner.specs.declared.head.Phase.TheVariants.{AtRest}
 use Rattle.planner.specs.declared.says.Says.{Says}
-use Rattle.planner.specs.declared.slot.Slot.{Slot}
+use Rattle.planner.specs.Order.{Slot}
 use Rattle.planner.specs.declared.tables.Tables.{Tables}
 
 -- the slots after the pages, one after another from the head's next page and the next number on

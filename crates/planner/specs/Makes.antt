@@ -1,7 +1,8 @@
 -- What making room comes to: there is always room.
-use Rattle.std.specs.Prelude.{◌≡◌, ℕ, ◌+◌, ◌<◌, ◌≤◌, Ok, Err, Result}
+use Rattle.std.specs.Prelude.{◌≡◌, ℕ, ◌+◌, ◌<◌, ◌≤◌, length, Ok, Err, Result}
 use Rattle.planner.specs.Room.{Room}
 use Rattle.planner.specs.Shape.{spent_above}
+use Rattle.planner.specs.Slots.{listed}
 use Rattle.planner.specs.Steps.{state, SameKeys}
 use Rattle.planner.specs.declared.faults.RoomFault.{RoomFault}
 use Rattle.planner.specs.declared.faults.RoomFault.TheVariants.{Size, Spent}
@@ -11,7 +12,7 @@ use Rattle.planner.specs.declared.tables.Tables.{Tables}
 pub record Made (t : Tables) (g : ℕ) (u : Tables) : Type 0 where
   pub room : Room (state u) g
   pub keys : SameKeys t u
-  pub numbers : u.last ≤ t.last + t.slots.len
+  pub numbers : u.last ≤ t.last + length (listed t.slots)
 
 -- room is made for each group of 1 to 4 pages while numbers are left; else nothing changes
 abbrev pub MakesRoom : Tables → ℕ → Result (Unit {0}) RoomFault → Tables → Type 0

@@ -26,7 +26,7 @@ impl Tables {
         ensures { 1 ≤ g → Decides result (Room (state self.now) g) }
     {
         self.has_left(g)
-            && (self.slots.len == 0 || matches!(self.spares(), Spares::One(_) | Spares::More(_)))
+            && (self.slots.len() == 0 || matches!(self.spares(), Spares::One(_) | Spares::More(_)))
     }
 
     // Whether a batch can be written, as far as pages and numbers go.
@@ -54,7 +54,7 @@ impl Tables {
         }
         // Which pages are written where does not change how many keys there are.
         let after = written(self.slots, pages, Head { block: 0, used: 0 }, 0);
-        after.len > self.limit()
+        after.len() > self.limit()
     }
 
     // The pages are written, and these are the slots after them.
@@ -64,7 +64,7 @@ impl Tables {
         requires room { Room (state self.old) (length pages.now) }
         requires fits { self.old.last + length pages.now < 2 ^ 32 }
         requires floor { BatchFloor (state self.old) floor }
-        requires limited { after.len ≤ limit self.old.per self.old.blocks }
+        requires limited { length (listed after) ≤ limit self.old.per self.old.blocks }
         requires written { Written (listed self.old.slots) pages.now head.block head.used (self.old.last + 1) (length pages.now) (listed after) }
         ensures { Commits self.old pages.now self.new }
     {
@@ -88,7 +88,7 @@ impl Tables {
         let head = self.head.ok_or(BatchFault::NoRoom)?;
         let floor = self.batch_floor().ok_or(BatchFault::Spent)?;
         let after = written(self.slots, pages, head, self.last);
-        if after.len > self.limit() {
+        if after.len() > self.limit() {
             return Err(BatchFault::Full);
         }
         self.commit(pages, head, after, floor);

@@ -33,7 +33,7 @@ pub use laws::{batch_keeps, mount_keeps, mount_past};
 pub use numbers::SPENT_ABOVE;
 pub use says::Says;
 pub use scanned::Scanned;
-pub use slot::Slot;
+pub use slot::{Place, Slot};
 pub use slots::Slots;
 pub use steps::Step;
 pub use tables::Tables;

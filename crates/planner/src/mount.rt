@@ -1,5 +1,6 @@
 // Tables from a scan.
-ghost use Rattle.std.specs.Prelude.{◌≡◌, ℕ, ◌<◌, ◌≤◌, Decides, slice_index_or};
+ghost use Rattle.std.specs.Prelude.{◌≡◌, ℕ, ◌<◌, ◌≤◌, length, Decides, slice_index_or};
+ghost use Rattle.planner.specs.Slots.{listed};
 ghost use Rattle.planner.specs.Shape.{blank};
 ghost use Rattle.planner.specs.State.{Free};
 ghost use Rattle.planner.specs.Mountable.{found, Sized, Placed, Agree, Mountable, Mounting};
@@ -26,7 +27,7 @@ impl Scanned {
         are_sizes(self.per_block, self.blocks)
             && 0 < self.floor
             && self.floor - 1 <= self.last
-            && self.slots.len <= key_limit(self.per_block, self.blocks)
+            && self.slots.len() <= key_limit(self.per_block, self.blocks)
     }
 
     // Whether no block has a number above the last one.
@@ -38,17 +39,17 @@ impl Scanned {
 
     // Whether the key is told by a page of the chip that its block knows of.
     fn is_placed(&self, slot: &Slot) -> bool
-        ensures { (k : ℕ) → slice_index_or self.now.slots.items k blank ≡ slot.now → Decides result (Placed (found self.now) k) }
+        ensures { (k : ℕ) → slice_index_or (listed self.now.slots) k blank ≡ slot.now → Decides result (Placed (found self.now) k) }
     {
-        slot.block < self.blocks
-            && slot.index < self.per_block
+        slot.place.block < self.blocks
+            && slot.place.index < self.per_block
             && self.floor <= slot.number
-            && slot.number <= self.high_of(slot.block)
+            && slot.number <= self.high_of(slot.place.block)
     }
 
     // Whether all are.
     fn are_placed(&self) -> bool
-        ensures { Decides result ((k : ℕ) → k < self.now.slots.len → Placed (found self.now) k) }
+        ensures { Decides result ((k : ℕ) → k < length (listed self.now.slots) → Placed (found self.now) k) }
     {
         let mut slots = self.slots.as_slice().iter();
         slots.all(|slot| self.is_placed(slot))
@@ -56,21 +57,21 @@ impl Scanned {
 
     // Whether two keys are one, or told by different pages, in blocks whose numbers do not interleave.
     fn agree(&self, one: &Slot, other: &Slot) -> bool
-        ensures { (j k : ℕ) → j < self.now.slots.len → k < self.now.slots.len → slice_index_or self.now.slots.items j blank ≡ one.now → slice_index_or self.now.slots.items k blank ≡ other.now → Decides result (Agree (found self.now) j k) }
+        ensures { (j k : ℕ) → j < length (listed self.now.slots) → k < length (listed self.now.slots) → slice_index_or (listed self.now.slots) j blank ≡ one.now → slice_index_or (listed self.now.slots) k blank ≡ other.now → Decides result (Agree (found self.now) j k) }
     {
         if one.key == other.key {
             return true;
         }
-        if one.block == other.block {
-            return one.index != other.index && one.number != other.number;
+        if one.place.block == other.place.block {
+            return one.place.index != other.place.index && one.number != other.number;
         }
         one.number > other.number
-            || one.number < other.number && self.high_of(one.block) < other.number
+            || one.number < other.number && self.high_of(one.place.block) < other.number
     }
 
     // Whether the key agrees so with all others.
     fn agrees(&self, one: &Slot) -> bool
-        ensures { (j : ℕ) → j < self.now.slots.len → slice_index_or self.now.slots.items j blank ≡ one.now → Decides result ((k : ℕ) → k < self.now.slots.len → Agree (found self.now) j k) }
+        ensures { (j : ℕ) → j < length (listed self.now.slots) → slice_index_or (listed self.now.slots) j blank ≡ one.now → Decides result ((k : ℕ) → k < length (listed self.now.slots) → Agree (found self.now) j k) }
     {
         let mut slots = self.slots.as_slice().iter();
         slots.all(|other| self.agree(one, other))
@@ -78,7 +79,7 @@ impl Scanned {
 
     // Whether all keys do.
     fn all_agree(&self) -> bool
-        ensures { Decides result ((j : ℕ) → j < self.now.slots.len → (k : ℕ) → k < self.now.slots.len → Agree (found self.now) j k) }
+        ensures { Decides result ((j : ℕ) → j < length (listed self.now.slots) → (k : ℕ) → k < length (listed self.now.slots) → Agree (found self.now) j k) }
     {
         let mut slots = self.slots.as_slice().iter();
         slots.all(|one| self.agrees(one))

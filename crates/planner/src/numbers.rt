@@ -31,7 +31,7 @@ impl Tables {
         ensures { MatchOption result (self.now.last + 1 ≡ 2 ^ 32) (λ f. BatchFloor (state self.now) f) }
     {
         match self.lowest() {
-            Some(slot) => Some(self.slots.items[slot].number),
+            Some(slot) => Some(self.slots.as_slice()[slot].number),
             None => self.unused(),
         }
     }

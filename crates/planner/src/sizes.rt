@@ -3,6 +3,8 @@ ghost use Rattle.std.specs.Prelude.{◌≡◌, ◌≤◌, Decides};
 ghost use Rattle.planner.specs.Formats.{Sizes};
 ghost use Rattle.planner.specs.State.{limit};
 
+use crate::batch::BATCH_PAGES;
+
 /// The fewest blocks of a chip, and the fewest pages of a block.
 const FEWEST: u8 = 4;
 
@@ -16,7 +18,7 @@ const SPARE_BLOCKS: usize = 3;
 pub(crate) const MOST_BLOCKS: usize = MOST as usize;
 
 /// The keys of the largest chip, and a batch beyond.
-pub(crate) const MOST_SLOTS: usize = MOST as usize * (MOST_BLOCKS - SPARE_BLOCKS) + 4;
+pub(crate) const MOST_SLOTS: usize = MOST as usize * (MOST_BLOCKS - SPARE_BLOCKS) + BATCH_PAGES;
 
 // Whether a chip of such blocks and pages is one of ours.
 pub(crate) fn are_sizes(per_block: u8, blocks: u8) -> bool

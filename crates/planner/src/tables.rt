@@ -1,6 +1,7 @@
 // What the journal knows while mounted.
 ghost use Rattle.std.specs.Prelude.{◌≡◌, ◌≤◌, length};
 ghost use Rattle.planner.specs.State.{Sound};
+ghost use Rattle.planner.specs.Slots.{listed};
 ghost use Rattle.planner.specs.Shape.{shape, used_of, Keeps};
 
 use crate::head::{Head, Phase};
@@ -23,7 +24,7 @@ pub struct Tables {
     ghost tall: { length high ≡ 16 },
     ghost slim: { per ≤ 16 },
     ghost small: { blocks ≤ 16 },
-    ghost few: { slots.len ≤ 208 },
+    ghost few: { length (listed slots) ≤ 208 },
     ghost within: { used_of per head ≤ per },
     ghost sound: { ∥ Sound (shape slots high per blocks floor last head) ∥₁ },
     ghost spare: { ∥ Keeps phase (shape slots high per blocks floor last head) ∥₁ },

@@ -1,4 +1,4 @@
-use Rattle.std.proofs.Common.{ℕ, ◌<◌, rules, tests}
+use Rattle.std.proofs.Common.{ℕ, ◌<◌, length, rules, tests}
 use Rattle.std.proofs.lemmas.Iterator.{cases_from_all, YieldsList-from_slice}
 use Rattle.planner.specs.Mountable.{found, Agree}
 use Rattle.planner.specs.Slots.{listed}
@@ -8,5 +8,5 @@ use Rattle.planner.proofs.scanned.Scanned.all_agree.Goals as goal
 pub returns : goal.returns
 returns c =
     let s = c.args.self.now.slots in
-    each_slot s (λ j. (k : ℕ) → k < s.len → Agree (found c.args.self.now) j k) c.all.result
+    each_slot s (λ j. (k : ℕ) → k < length (listed s) → Agree (found c.args.self.now) j k) c.all.result
     (cases_from_all _ _ c.all.result (Where s _) (Where s _) c.all.ensures.ran (YieldsList-from_slice (listed s) cc) (λ x q k. search (rules, tests)) (λ x q k. search (rules, tests)))

@@ -1,8 +1,7 @@
-use Rattle.std.proofs.Common.{◌≡◌, ◌+◌, ◌<◌, Some, refl, rules, arith}
+use Rattle.std.proofs.Common.{◌≡◌, ◌+◌, ◌<◌, length, Some, refl, rules, arith}
 use Rattle.planner.specs.Slots.{listed}
 use Rattle.planner.specs.State.{limit}
 use Rattle.planner.proofs.Counts.{within, beyond, written_by}
-use Rattle.planner.proofs.Firsts.{listed_long}
 use Rattle.planner.proofs.tables.Tables.batch.Goals as goal
 
 pub returns : goal.returns
@@ -16,21 +15,21 @@ returns c =
         fits = may.3;
         limited =
             within c.args.self.now c.args.pages.now h.block h.used (c.args.self.now.last + 1) c.written-after.result c.written-after.ensures
-            (omega (arith, c.if-after-limit.false, c.limit.ensures));
+            (omega (arith, c.if-len-limit.false, c.len.ensures, c.limit.ensures));
       },
       c.commit.ensures,
     )
 
-pub returns-then-after-limit : goal.returns-then-after-limit
-returns-then-after-limit c =
+pub returns-then-len-limit : goal.returns-then-len-limit
+returns-then-len-limit c =
     let t = c.args.self.now in
     let pages = c.args.pages.now in
     let may = c.in_ok-may_write.ensures in
     let h = c.in_ok-head.head in
     let after = c.written-after.result in
     let is : t.head ≡ Some h = search rules in
-    let more : limit t.per t.blocks < after.len = omega (arith, c.if-after-limit.true, c.limit.ensures) in (
+    let more : limit t.per t.blocks < length (listed after) = omega (arith, c.if-len-limit.true, c.len.ensures, c.limit.ensures) in (
       refl,
-      λ can. omega (arith, more, can.limited (listed after) (written_by t pages h after is c.written-after.ensures), listed_long after),
+      λ can. omega (arith, more, can.limited (listed after) (written_by t pages h after is c.written-after.ensures)),
       (may.0, may.1, may.3, may.2, beyond t pages h.block h.used (t.last + 1) after c.written-after.ensures more),
     )
