@@ -3,7 +3,7 @@ use Rattle.std.proofs.Common.{◌≡◌, ℕ, List, [], ◌∷◌, ◌++◌, sym
 use Rattle.page.specs.declared.fields.Entry.{Entry}
 use Rattle.tree.specs.Table.{nodes_of}
 use Rattle.tree.specs.Tree.{Entries, Among}
-use Rattle.tree.proofs.Ordered.{one_entry, rising_of}
+use Rattle.tree.proofs.Ordered.{one_entry}
 use Rattle.tree.proofs.Paths.{one_path, stands_more}
 use Rattle.listing.specs.Laws.{OneListing}
 use Rattle.listing.specs.Listing.{line, LineOf, Lines}
@@ -24,4 +24,4 @@ module _ (E : Entries) (one : (f : ℕ) (a b : Entry) → E f a → E f b → a 
       e ∙ ap₂ (λ (x y : List ℕ). x ++ y) (one_line file s t l m) (lines_one files r q ls ms) ∙ sym f
 
 pub one_listing : OneListing
-one_listing tree root a b s t = lines_one (Among (nodes_of tree)) (one_entry (nodes_of tree) (rising_of tree)) root _ a b s t
+one_listing tree root a b s t = lines_one (Among (nodes_of tree)) (one_entry (nodes_of tree) tree.nodes.rising) root _ a b s t

@@ -15,7 +15,7 @@ use Rattle.tree.specs.Table.{file_of, nodes_of, Rising}
 use Rattle.tree.specs.Tree.{Entries, Among, Rooted}
 use Rattle.tree.proofs.Agreeing.{rooted_same}
 use Rattle.tree.proofs.Finding.{entry_at}
-use Rattle.tree.proofs.Ordered.{nothing, rising_of}
+use Rattle.tree.proofs.Ordered.{nothing}
 use Rattle.listing.specs.Chip.{FilesOf, ListingOf, ListsChip}
 use Rattle.listing.specs.Listing.{Lists}
 use Rattle.listing.specs.Writes.{Short}
@@ -55,6 +55,6 @@ module _ (c : Chip) (s : Scan) (found : Scanned c s) where
         top = found.top;
         is_top = found.is_top;
         files = map file_of (nodes_of s.tree);
-        files_of = files_of (EntryShown (Counts (LogOf c) (floor_of found.top))) (nodes_of s.tree) (rising_of s.tree) found.entries;
+        files_of = files_of (EntryShown (Counts (LogOf c) (floor_of found.top))) (nodes_of s.tree) s.tree.nodes.rising found.entries;
         lines = lines_same (Among (nodes_of s.tree)) (EntryShown (Counts (LogOf c) (floor_of found.top))) (λ f e. (found.entries f e).0) (map file_of (nodes_of s.tree)) text lists;
       }

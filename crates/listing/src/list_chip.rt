@@ -2,12 +2,29 @@
 ghost use Rattle.std.specs.Prelude.{◌≡◌, Err};
 ghost use Rattle.listing.specs.Chip.{ListsChip};
 ghost use Rattle.replay.specs.declared.fault.ReplayFault.TheVariants.{WorkPage};
-ghost use Rattle.work_page.specs.Lent.{Lent, Returned};
+ghost use Rattle.work_page.specs.Lent.{Lent, Returned, ones};
 
 use crate::lines::{LISTING_BYTES, write_listing};
 use flash::{PAGE_BYTES, ReadFlash};
 use replay::{ReplayFault, scan};
 use work_page::Guard;
+
+// The listing, and nothing that was read stays in the working page.
+fn list_page<F: ReadFlash>(
+    flash: &F,
+    page: &mut [u8; PAGE_BYTES],
+    buffer: &mut [u8],
+) -> Result<usize, ReplayFault>
+    ensures answer { ListsChip (F.ReadFlash.chip flash.now) buffer.old result buffer.new }
+    ensures page { page.new ≡ ones 256 }
+{
+    let guard = Guard(page);
+    if buffer.len() < LISTING_BYTES {
+        return Err(ReplayFault::Buffer);
+    }
+    let found = scan(flash, guard.0)?;
+    Ok(write_listing(&found.tree, buffer))
+}
 
 /// Writes a line for each file and directory that the chip shows, by rising file number, to the front
 /// of the buffer, and answers how many bytes they are. A refusal leaves the buffer as it was. Refusals are
@@ -20,13 +37,8 @@ pub fn list<F: ReadFlash>(
     ensures answer { Lent work.old (ListsChip (F.ReadFlash.chip flash.now) buffer.old result buffer.new) ((result ≡ Err WorkPage) × (buffer.new ≡ buffer.old)) }
     ensures work { Returned work.old work.new }
 {
-    if work.len() != PAGE_BYTES {
+    let Some(page) = work.as_mut_array() else {
         return Err(ReplayFault::WorkPage);
-    }
-    let guard = Guard(work);
-    if buffer.len() < LISTING_BYTES {
-        return Err(ReplayFault::Buffer);
-    }
-    let found = scan(flash, guard.0)?;
-    Ok(write_listing(&found.tree, buffer))
+    };
+    list_page(flash, page, buffer)
 }

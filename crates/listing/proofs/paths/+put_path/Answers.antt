@@ -4,7 +4,7 @@ use Rattle.tree.specs.declared.node.Node.{Node}
 use Rattle.tree.specs.declared.table.Tree.{Tree}
 use Rattle.tree.specs.Table.{nodes_of}
 use Rattle.tree.specs.Tree.{Among, DirectoryAt, Reached, Stands}
-use Rattle.tree.proofs.Ordered.{one_entry, rising_of}
+use Rattle.tree.proofs.Ordered.{one_entry}
 use Rattle.tree.proofs.Paths.{path_short, stands_back, stands_below, stands_nowhere, stands_root}
 use Rattle.listing.specs.Writes.{Above}
 use Rattle.listing.proofs.Writing.{writes_more}
@@ -17,7 +17,7 @@ some t node names s e = stands_nowhere (Among (nodes_of t)) names node.file e s
 module _ (t : Tree) (node d : Node) (names : ℕ) (x : Among (nodes_of t) node.file node.entry) (s : Reached (Among (nodes_of t)) names node.file)
     (above : Above (Among (nodes_of t)) node (Some d)) where
   back : DirectoryAt (Among (nodes_of t)) node.entry.directory × Reached (Among (nodes_of t)) (names - 1) node.entry.directory
-  back = stands_back (Among (nodes_of t)) (one_entry (nodes_of t) (rising_of t)) names node.file node.entry x above.0 s
+  back = stands_back (Among (nodes_of t)) (one_entry (nodes_of t) t.nodes.rising) names node.file node.entry x above.0 s
 
   -- its directory stands with one name less
   up : Reached (Among (nodes_of t)) (names - 1) d.file

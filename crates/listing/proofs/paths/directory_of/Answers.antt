@@ -1,11 +1,11 @@
 use Rattle.tree.specs.Table.{nodes_of}
 use Rattle.tree.specs.Tree.{Among}
-use Rattle.tree.proofs.Ordered.{one_entry, rising_of}
+use Rattle.tree.proofs.Ordered.{one_entry}
 use Rattle.tree.proofs.Paths.{stands_back}
 use Rattle.listing.proofs.paths.directory_of.Goals as goal
 
 pub returns-in-None : goal.returns-in-None
 returns-in-None c =
     let t = c.args.tree.now in
-    let above = (stands_back (Among (nodes_of t)) (one_entry (nodes_of t) (rising_of t)) c.args.names c.args.node.file c.args.node.entry c.requires.there c.if-file-eq0.false c.requires.stands).0 in
+    let above = (stands_back (Among (nodes_of t)) (one_entry (nodes_of t) t.nodes.rising) c.args.names c.args.node.file c.args.node.entry c.requires.there c.if-file-eq0.false c.requires.stands).0 in
     absurd (c.in-None.ensures above.0 above.1)
