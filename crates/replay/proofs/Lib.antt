@@ -11,6 +11,7 @@ pub mod Scratched
 pub mod Newer
 pub mod Chips
 pub mod Gathering
+pub mod Reading
 pub mod Remembering
 pub mod Listed
 pub mod Written

@@ -3,7 +3,8 @@ ghost use Rattle.std.specs.Prelude.{◌≤◌, length};
 
 use crate::seen::Seen;
 
-/// The remembered pages by rising number, which of them have a complete group, and the floor.
+/// The remembered pages by rising number, which of them have a complete group, and the floor. `whole` lies
+/// beside the pages: they are remembered, and shared, before any group is known to be complete.
 #[derive(Clone, Copy)]
 pub(crate) struct Pages<'a> {
     pub(crate) seen: &'a [Seen],

@@ -1,5 +1,5 @@
 // Reading what a chip shows.
-ghost use Rattle.std.specs.Prelude.{◌≡◌, ℕ, ◌<◌, ◌≤◌, true, length, Err};
+ghost use Rattle.std.specs.Prelude.{◌≡◌, ℕ, ◌<◌, ◌≤◌, length, Decides, Err};
 ghost use Rattle.replay.specs.Damage.{FewBlocks, key_limit, Scans, ScansSeen, Trees};
 ghost use Rattle.replay.specs.Marks.{Marks};
 ghost use Rattle.replay.specs.Remembers.{Remembers};
@@ -66,8 +66,7 @@ fn scan_seen<F: ReadFlash>(
     requires remembers { Remembers (F.ReadFlash.chip powered.now.flash.now) (length (F.ReadFlash.chip powered.now.flash.now).pages) seen.now }
     ensures { ScansSeen (F.ReadFlash.chip powered.now.flash.now) result }
 {
-    let mut whole = [false; PAGE_LIMIT];
-    mark(seen, &mut whole);
+    let whole = mark(seen);
     let top = seen[seen.len() - 1].header;
     let pages = Pages {
         seen,
@@ -82,23 +81,27 @@ fn scan_seen<F: ReadFlash>(
     if has_overrun(slots.as_slice(), &tree) {
         return Err(ReplayFault::Damaged);
     }
-    let mut tops = [0; BLOCK_LIMIT];
-    block_tops(seen, F::block_pages(), &mut tops);
     Ok(Scan {
         slots,
-        tops,
+        tops: block_tops(seen, F::block_pages()),
         floor: top.floor,
         highest: top.number,
         tree,
     })
 }
 
+// Whether the chip has no more blocks, and no fewer, than one that is shown.
+fn has_few_blocks<F: ReadFlash>(flash: &F) -> bool
+    ensures { Decides result (FewBlocks (F.ReadFlash.chip flash.now)) }
+{
+    (LEAST_BLOCKS..=BLOCK_LIMIT).contains(&flash.blocks())
+}
+
 // What the chip tells.
 fn read_chip<F: ReadFlash>(flash: &F, work: &mut [u8; PAGE_BYTES]) -> Result<Scan, ReplayFault>
     ensures { Scans (F.ReadFlash.chip flash.now) result }
 {
-    let blocks = flash.blocks();
-    if blocks < LEAST_BLOCKS || blocks > BLOCK_LIMIT {
+    if !has_few_blocks(flash) {
         return Err(ReplayFault::Blocks);
     }
     let found = gather(flash, work)?;

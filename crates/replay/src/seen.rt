@@ -7,7 +7,8 @@ use lookup::Ranked;
 use object::Key;
 use page::{Content, Header, Page};
 
-/// What a page says to its slot.
+/// What a page says to its slot: one of three things side by side, so that a reader tells them apart in
+/// one pattern, where an `Option` would take two.
 #[derive(Clone, Copy, PartialEq, Eq, Debug)]
 pub enum Says {
     Nothing,
@@ -39,11 +40,11 @@ pub(crate) fn says_of(page: &Page) -> Says
     let file = page.header.file;
     match &page.content {
         Content::Note => Says::Nothing,
-        Content::Entry(_) => Says::Sets(Key { file, part: 0 }),
+        Content::Entry(_) => Says::Sets(Key::entry(file)),
         Content::Chunk(chunk) => Says::Sets(Key {
             file,
             part: chunk.index + 1,
         }),
-        Content::Gone => Says::Removes(Key { file, part: 0 }),
+        Content::Gone => Says::Removes(Key::entry(file)),
     }
 }

@@ -13,8 +13,7 @@ fn said_to(says: Says, key: &Key) -> bool
 {
     match says {
         Says::Nothing => false,
-        Says::Sets(slot) => slot == *key,
-        Says::Removes(slot) => slot == *key,
+        Says::Sets(slot) | Says::Removes(slot) => slot == *key,
     }
 }
 

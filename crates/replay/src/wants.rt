@@ -8,7 +8,8 @@ ghost use Rattle.tree.specs.Tree.{Among};
 use object::Key;
 use tree::Tree;
 
-/// A choice of keys.
+/// A choice of keys. A trait and no closure: its ghost member names what is wanted, which a function that
+/// takes a closure could say only by one more ghost value and one more demand on each caller.
 pub(crate) trait Wants {
     ghost wanted: { Self → Name → Type 0 };
 
