@@ -7,13 +7,10 @@ ghost use Rattle.tree.specs.Tree.{Among, Reached, Rooted};
 
 use crate::pen::Pen;
 use page::EntryKind;
-use tree::{Node, Tree};
+use tree::{NAME_LIMIT, Node, Tree};
 
 /// The memory that a listing of 60 lines of at most 208 bytes takes.
 pub const LISTING_BYTES: usize = 12480;
-
-/// The most names of a path.
-const NAME_LIMIT: u8 = 8;
 
 fn letter(kind: EntryKind) -> u8
     ensures { result ≡ letter_of kind }
