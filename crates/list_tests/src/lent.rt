@@ -6,12 +6,9 @@ use replay::ReplayFault;
 
 const IMAGE_BYTES: usize = 16384;
 
-// The number of the refusal, or 0 where there is none.
-pub(crate) fn refusal(answer: Result<usize, ReplayFault>) -> u8 {
-    match answer {
-        Ok(_) => 0,
-        Err(fault) => fault.number(),
-    }
+// What was answered, a refusal by its number.
+pub(crate) fn numbered(answer: Result<usize, ReplayFault>) -> Result<usize, u8> {
+    answer.map_err(|fault| fault.number())
 }
 
 #[test]
@@ -19,7 +16,7 @@ fn a_short_working_page_is_refused_first(rt: HostRuntime) {
     let mut work = [7; 255];
     let mut buffer = [7; 1];
     let answer = list(&DumpFlash::new(&[]), &mut work, &mut buffer);
-    assert_eq!(rt; refusal(answer), 1);
+    assert_eq!(rt; numbered(answer), Err(1));
     assert!(rt; work == [7; 255]);
     assert!(rt; buffer == [7; 1]);
 }
@@ -29,7 +26,7 @@ fn a_short_buffer_is_refused_next(rt: HostRuntime) {
     let mut work = [7; PAGE_BYTES];
     let mut buffer = [7; 12479];
     let answer = list(&DumpFlash::new(&[]), &mut work, &mut buffer);
-    assert_eq!(rt; refusal(answer), 5);
+    assert_eq!(rt; numbered(answer), Err(5));
     assert!(rt; work == [0xff; PAGE_BYTES]);
     assert!(rt; buffer == [7; 12479]);
 }

@@ -1,5 +1,5 @@
 // Other kinds of flash, and one that is off.
-use crate::lent::refusal;
+use crate::lent::numbered;
 use flash::{Flash, Fuse, ImageFlash, JoinedFlash, PAGE_BYTES};
 use images::{plain, write};
 use listing::{LISTING_BYTES, list, put_answer};
@@ -27,7 +27,7 @@ fn a_chip_that_is_off_is_refused(rt: HostRuntime) {
     assert!(rt; flash.erase(0).is_err());
     let mut work = [7; PAGE_BYTES];
     let mut buffer = [7; LISTING_BYTES];
-    assert_eq!(rt; refusal(list(&flash, &mut work, &mut buffer)), 10);
+    assert_eq!(rt; numbered(list(&flash, &mut work, &mut buffer)), Err(10));
     assert!(rt; work == [0xff; PAGE_BYTES]);
     assert!(rt; buffer == [7; LISTING_BYTES]);
 }
