@@ -1,5 +1,6 @@
 pub mod Tally
 pub mod Limits
+pub mod Unmoved
 pub mod Opening
 pub mod Copying
 pub mod OpenMaking
