@@ -1,5 +1,5 @@
 -- What stays sound where no key moves, and where the head alone is written.
-use Rattle.std.proofs.Common.{◌≡◌, ℕ, ◌<◌, ◌≤◌, sym, ap, ◌∙◌, arith}
+use Rattle.std.proofs.Common.{◌≡◌, ℕ, ◌+◌, ◌<◌, ◌≤◌, sym, ap, ◌∙◌, arith}
 use native.Mathlib.Decide.{ℕ_discrete}
 use Rattle.planner.specs.State.{State, Sound}
 use Rattle.planner.specs.Moves.{Same}
