@@ -7,9 +7,10 @@ pub mod OpenMaking
 pub mod CopyMaking
 pub mod Batching
 pub mod Mounting
-pub mod Slotted
-pub mod Least
 pub mod Firsts
+pub mod Filtered
+pub mod Least
+pub mod Slotted
 pub mod Replacing
 pub mod Inserting
 pub mod Putting
