@@ -6,6 +6,7 @@ use Rattle.planner.specs.Moves.{Same}
 use Rattle.planner.specs.Room.{Room}
 use Rattle.planner.specs.Batches.{New, BatchFloor, Batched, BatchKeeps}
 use Rattle.planner.proofs.Copying.{known, head_last}
+use Rattle.planner.proofs.Unmoved.{Grown, grown_up, grown_highest}
 
 -- some key has the lowest number
 least : (f : ℕ → ℕ) (n : ℕ) → (n ≡ 0) ⊎ ((i : ℕ) × (i < n) × ((k : ℕ) → k < n → f i ≤ f k))
@@ -45,12 +46,8 @@ module _ (s t : State) (g f : ℕ) (w : Sound s) (some : 1 ≤ g) (room : Room s
             })
       ]
 
-  high_up : (c : ℕ) → c < s.blocks → s.high c ≤ t.high c
-  high_up c l =
-      elim (ℕ_discrete c s.head) [
-        | yes e ↦ (let a : t.high c ≡ t.high s.head = ap t.high e in omega (arith, a, o.here, w.highest c l))
-        | no ne ↦ omega (arith, o.high c l ne)
-      ]
+  grown : Grown s t
+  grown = record { blocks = o.blocks; here = o.here ∙ sym o.last; high = o.high; more = omega (arith, o.last) }
 
   -- no page of the batch told a key before it
   fresh : (j k : ℕ) → (a : Old j) → (b : Made k) → t.block j ≡ t.block k → t.index j ≡ t.index k → ⊥
@@ -94,17 +91,13 @@ module _ (s t : State) (g f : ℕ) (w : Sound s) (some : 1 ≤ g) (room : Room s
             elim (o.each k l) [
               | inl a ↦
                   (let c : t.high (t.block k) ≡ t.high (s.block a.0) = ap t.high a.2.block in
-                  omega (arith, c, a.2.number, w.held a.0 a.1, high_up (s.block a.0) (w.inside a.0 a.1)))
+                  omega (arith, c, a.2.number, w.held a.0 a.1, grown_up s t w grown (s.block a.0) (w.inside a.0 a.1)))
               | inr a ↦ (let c : t.high (t.block k) ≡ t.high s.head = ap t.high a.2.block in omega (arith, c, a.2.number, a.1, o.here))
             ];
         counted = λ k l.
             elim (o.each k l) [ inl a ↦ omega (arith, a.2.number, raised.under a.0 a.1) | inr a ↦ omega (arith, a.2.number, raised.most) ];
         order = λ j k l m. order j k (o.each j l) (o.each k m);
-        highest = λ c l.
-            elim (ℕ_discrete c s.head) [
-              | yes e ↦ (let a : t.high c ≡ t.high s.head = ap t.high e in omega (arith, a, o.here, o.last))
-              | no ne ↦ omega (arith, o.high c (omega (arith, o.blocks)) ne, w.highest c (omega (arith, o.blocks)), o.last)
-            ];
+        highest = grown_highest s t w grown;
         some = omega (arith, raised.up, w.some);
         low = omega (arith, raised.most, o.last);
         within = omega (arith, o.used, room.left, o.per);

@@ -4,6 +4,7 @@ use native.Mathlib.Decide.{ℕ_discrete}
 use Rattle.planner.specs.State.{State, Sound, Lowest}
 use Rattle.planner.specs.Moves.{Copied, Carries}
 use Rattle.planner.proofs.Limits.{limit_same}
+use Rattle.planner.proofs.Unmoved.{Grown, grown_up, grown_highest}
 
 -- each key's number is at most the last one
 pub known : (s : State) → Sound s → (k : ℕ) → k < s.count → s.number k ≤ s.last
@@ -36,12 +37,8 @@ module _ (s : State) (w : Sound s) (i f : ℕ) (low : Lowest s i) (carries : Car
   back : (k : ℕ) → k < t.count → k < s.count
   back k l = omega (arith, o.count)
 
-  high_up : (c : ℕ) → c < s.blocks → s.high c ≤ t.high c
-  high_up c l =
-      elim (ℕ_discrete c s.head) [
-        | yes e ↦ (let a : t.high c ≡ t.high s.head = ap t.high e in omega (arith, o.here, w.highest c l))
-        | no ne ↦ omega (arith, o.high c l ne)
-      ]
+  grown : Grown s t
+  grown = record { blocks = o.blocks; here = o.here ∙ sym o.last; high = o.high; more = omega (arith, o.last) }
 
   high_here : t.high (t.block i) ≡ s.last + 1
   high_here = ap t.high o.block_here ∙ o.here
@@ -50,7 +47,7 @@ module _ (s : State) (w : Sound s) (i f : ℕ) (low : Lowest s i) (carries : Car
   held k l (yes e) = subst (λ (j : ℕ). t.number j ≤ t.high (t.block j)) (sym e) (omega (arith, high_here, o.number_here))
   held k l (no ne) =
       let a : t.high (t.block k) ≡ t.high (s.block k) = ap t.high (o.kept k l ne).block in
-      omega (arith, a, high_up (s.block k) (w.inside k l), w.held k l, (o.kept k l ne).number)
+      omega (arith, a, grown_up s t w grown (s.block k) (w.inside k l), w.held k l, (o.kept k l ne).number)
 
   -- no page that tells a key is the head's next one
   fresh : (k : ℕ) → k < s.count → (k ≡ i → ⊥) → t.block k ≡ t.block i → t.index k ≡ t.index i → ⊥
@@ -115,11 +112,7 @@ module _ (s : State) (w : Sound s) (i f : ℕ) (low : Lowest s i) (carries : Car
               | no ne ↦ omega (arith, (o.kept k (back k l) ne).number, o.floor, floor_under s w i f carries k (back k l) ne)
             ];
         order = λ j k l m. order j k (back j l) (back k m) (ℕ_discrete j i) (ℕ_discrete k i);
-        highest = λ c l.
-            elim (ℕ_discrete c s.head) [
-              | yes e ↦ (let a : t.high c ≡ t.high s.head = ap t.high e in omega (arith, a, o.here, o.last))
-              | no ne ↦ omega (arith, o.high c (omega (arith, o.blocks)) ne, w.highest c (omega (arith, o.blocks)), o.last)
-            ];
+        highest = grown_highest s t w grown;
         some = omega (arith, o.floor, w.some, floor_up s w i f carries);
         low = omega (arith, o.floor, o.last, floor_last s w i f carries);
         within = omega (arith, o.used, o.per);

@@ -1,9 +1,9 @@
 -- Mounting again finds sound tables.
-use Rattle.std.proofs.Common.{◌≡◌, ℕ, ◌<◌, sym, ap, ◌∙◌, arith}
+use Rattle.std.proofs.Common.{◌≡◌, ℕ, ◌<◌, ap, ◌∙◌, arith}
 use native.Mathlib.Decide.{dec_lt}
 use Rattle.planner.specs.State.{State, Sound, Free}
 use Rattle.planner.specs.Mounts.{Mounted, MountKeeps, MountPast}
-use Rattle.planner.proofs.Limits.{limit_same}
+use Rattle.planner.proofs.Unmoved.{unmoved_sound}
 
 module _ (s m : State) (w : Sound s) (o : Mounted s m) where
   back : (k : ℕ) → k < m.count → k < s.count
@@ -17,31 +17,13 @@ module _ (s m : State) (w : Sound s) (o : Mounted s m) where
 
   pub mount_sound : Sound m
   mount_sound =
-      record {
-        wide = omega (arith, w.wide, o.per);
-        tall = omega (arith, w.tall, o.blocks);
-        room = omega (arith, w.room, o.count, limit_same m.per s.per m.blocks s.blocks o.per o.blocks);
-        inside = inside;
-        fit = λ k l. omega (arith, (o.kept k (back k l)).index, w.fit k (back k l), o.per);
-        apart = λ j k l n d e.
-            w.apart j k (back j l) (back k n) (sym (o.kept j (back j l)).block ∙ d ∙ (o.kept k (back k n)).block)
-            (sym (o.kept j (back j l)).index ∙ e ∙ (o.kept k (back k n)).index);
-        unlike = λ j k l n e. w.unlike j k (back j l) (back k n) (sym (o.kept j (back j l)).number ∙ e ∙ (o.kept k (back k n)).number);
-        held = λ k l. omega (arith, same_high k (back k l), w.held k (back k l), (o.kept k (back k l)).number);
-        counted = λ k l. omega (arith, o.floor, (o.kept k (back k l)).number, w.counted k (back k l));
-        order = λ j k l n ne lt.
-            let h : s.high (s.block j) < s.number k
-            = w.order j k (back j l) (back k n) (λ e. ne ((o.kept j (back j l)).block ∙ e ∙ sym (o.kept k (back k n)).block))
-            (omega (arith, (o.kept j (back j l)).number, (o.kept k (back k n)).number)) in
-            omega (arith, same_high j (back j l), (o.kept k (back k n)).number);
-        highest = λ c l. omega (arith, o.less c (omega (arith, o.blocks)), w.highest c (omega (arith, o.blocks)), o.last);
-        some = omega (arith, o.floor, w.some);
-        low = omega (arith, o.floor, o.last, w.low);
-        within = omega (arith, o.used);
-        headless = λ h. o.used;
-        written = λ k l e. absurd (omega (arith, inside k l, o.head));
-        newest = λ h l. absurd (omega (arith, o.head));
-      }
+      unmoved_sound s m w (record { per = o.per; blocks = o.blocks; count = o.count; kept = o.kept; high = same_high; floor = o.floor })
+      (λ c l. omega (arith, o.less c (omega (arith, o.blocks)), w.highest c (omega (arith, o.blocks)), o.last))
+      (omega (arith, o.floor, o.last, w.low))
+      (omega (arith, o.used))
+      (λ h. o.used)
+      (λ k l e. absurd (omega (arith, inside k l, o.head)))
+      (λ h l. absurd (omega (arith, o.head)))
 
   pub mount_free : (b : ℕ) → b < s.blocks → s.high b < s.floor → Free m b
   mount_free b l h = record { real = omega (arith, o.blocks); below = omega (arith, o.less b l, o.floor); other = λ e. omega (arith, o.head, o.blocks) }

@@ -1,13 +1,13 @@
 -- What a chain over the slots in use says of them by their index.
 use native.Mathlib.Decide.{ℕ_discrete}
-use Rattle.std.proofs.Common.{◌≡◌, ℕ, ◌+◌, ◌<◌, min, Bool, true, false, not, ◌&&◌, eqb, length, get_or, Option, Some, None, MatchOption, Decides, MatchBool, sym, refl, ap, ◌∙◌, inl, inr, arith, rules, tests}
+use Rattle.std.proofs.Common.{◌≡◌, ℕ, ◌+◌, ◌<◌, min, Bool, true, false, not, ◌&&◌, eqb, length, get_or, map, Option, Some, None, MatchOption, Decides, MatchBool, sym, refl, ap, ◌∙◌, inl, inr, arith, rules, tests}
 use Rattle.object.specs.declared.key.Key.{Key}
 use Rattle.std.specs.Option.{unwrap_or, option_map}
 use Rattle.planner.specs.Moves.{Stays, Rises}
 use Rattle.planner.specs.Steps.{state, LowestBut}
 use Rattle.planner.specs.declared.tables.Tables.{Tables}
-use Rattle.planner.proofs.Least.{numbers, Bounds, Has, least_is}
-use Rattle.std.specs.List.{AllWithin, HoldsAt, reduce}
+use Rattle.planner.proofs.Least.{LeastOf, least_passing}
+use Rattle.std.specs.List.{AllWithin, HoldsAt, filter, reduce}
 use Rattle.std.proofs.lemmas.Bool.{false≢true}
 use Rattle.planner.specs.Shape.{blank}
 use Rattle.planner.specs.Slots.{listed}
@@ -41,19 +41,19 @@ module _ (t : Tables) (key : Key) where
   passes : (x : Slot) → (x.key ≡ key → ⊥) → differs x ≡ true
   passes x e = search (rules, tests)
 
-  together : (x : Slot) → differs x ≡ false → x.key ≡ key
+  together : (x : Slot) → (differs x ≡ true → ⊥) → x.key ≡ key
   together x e = search (rules, tests)
 
   -- the least number of the others, by their index
-  pub least_but : (r : Option ℕ) → option_map (λ n. n) r ≡ reduce min (numbers differs (listed t.slots))
+  pub least_but : (r : Option ℕ) → option_map (λ n. n) r ≡ reduce min (map (λ (x : Slot). x.number) (filter differs (listed t.slots)))
       → MatchOption r ((k : ℕ) → k < length (listed t.slots) → (get_or (listed t.slots) k blank).key ≡ key) (λ f. LowestBut t key f)
-  least_but r e = by r (least_is differs (listed t.slots) r (sym (plain r) ∙ e))
+  least_but r e = by r (least_passing differs (listed t.slots) r (sym (plain r) ∙ e))
     where
       plain : (r : Option ℕ) → option_map (λ n. n) r ≡ r
       plain None = refl
       plain (Some m) = refl
 
-      by : (r : Option ℕ) → MatchOption r ((k : ℕ) → k < length (listed t.slots) → differs (get_or (listed t.slots) k blank) ≡ false) (λ m. Bounds differs (listed t.slots) m × Has differs (listed t.slots) m)
+      by : (r : Option ℕ) → LeastOf differs (listed t.slots) r
           → MatchOption r ((k : ℕ) → k < length (listed t.slots) → (get_or (listed t.slots) k blank).key ≡ key) (λ f. LowestBut t key f)
       by None h = λ k l. together (get_or (listed t.slots) k blank) (h k l)
       by (Some m) h =

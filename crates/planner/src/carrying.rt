@@ -16,12 +16,10 @@ impl Tables {
         requires { Free (state self.now) block }
         ensures { PhaseAfter self.now.phase (state self.now) block result }
     {
-        if let Spares::More(_) = self.spares() {
-            return Phase::AtRest;
-        }
-        match self.phase {
-            Phase::AtRest => Phase::MakingRoom { since: self.last },
-            Phase::MakingRoom { since } => Phase::MakingRoom { since },
+        match (self.spares(), self.phase) {
+            (Spares::More(_), _) => Phase::AtRest,
+            (_, Phase::AtRest) => Phase::MakingRoom { since: self.last },
+            (_, making) => making,
         }
     }
 

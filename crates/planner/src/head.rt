@@ -7,7 +7,7 @@ pub struct Head {
     pub used: u8,
 }
 
-/// Whether room is being made.
+/// Whether room is being made. (No `Option` of a number: what is proved speaks of these two states by name.)
 #[derive(Clone, Copy)]
 pub enum Phase {
     AtRest,

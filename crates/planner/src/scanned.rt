@@ -11,6 +11,7 @@ pub struct Scanned {
     pub per_block: u8,
     pub blocks: u8,
     pub slots: Slots,
+    /// As long as the largest chip wants it: there is no heap.
     pub high: [u32; MOST_BLOCKS],
     pub floor: u32,
     pub last: u32,

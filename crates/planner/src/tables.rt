@@ -13,6 +13,7 @@ use crate::slots::Slots;
 #[derive(Drop)]
 pub struct Tables {
     pub(crate) slots: Slots,
+    /// As long as the largest chip wants it: there is no heap.
     pub(crate) high: [u32; MOST_BLOCKS],
     /// The pages of a block.
     pub(crate) per: u8,
