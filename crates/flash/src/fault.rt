@@ -15,6 +15,7 @@ pub enum FlashFault {
 }
 
 impl FlashFault {
+    // A number, since crews and the register know a refusal by it: a rule of the store.
     /// The number of the refusal: 10 for power that is off or went, 0 for `Range`, which no caller of the store ever meets.
     pub fn number(&self) -> u8
         ensures { result ≡ number_of self.now }

@@ -27,6 +27,7 @@ pub enum ObjectFault {
 }
 
 impl ObjectFault {
+    // A number, since crews and the register know a refusal by it: a rule of the store.
     /// The number of the refusal; 0 for an unfit batch, which no user of files ever meets.
     pub fn number(&self) -> u8
         ensures { result ≡ number_of_fault self.now }

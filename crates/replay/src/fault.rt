@@ -25,6 +25,7 @@ pub enum ReplayFault {
 }
 
 impl ReplayFault {
+    // A number, since crews and the register know a refusal by it: a rule of the store.
     /// The number of the refusal.
     pub fn number(&self) -> u8
         ensures { result ≡ number_of_fault self.now }
