@@ -48,9 +48,6 @@ module _ (xs : List Seen) (flags : List Bool) (f : ℕ) where
   shows_one_key i k j a b = sets_same k j (sym (a.sets nothing) ∙ b.sets nothing)
 
   module _ (W : Key → Type 0) where
-    pub collects_none : Collects xs flags f 0 W []
-    collects_none = record { rising = λ i j d lt h. absurd (omega arith); each = λ i d h. absurd (omega arith); all = λ j k h s w. absurd (omega arith) }
-
     module _ (at : ℕ) (here : at < length xs) (slots : List (Slot ℕ)) (c : Collects xs flags f at W slots) where
       -- a page that shows no wanted key
       pub collects_skip : ((k : Key) → ShowsAt xs flags f at k → W k → ⊥) → Collects xs flags f (at + 1) W slots

@@ -2,7 +2,7 @@ use Rattle.std.proofs.Common.{◌≡◌, ℕ, length, get_or, ap, subst, arith}
 use Rattle.lookup.specs.Rows.{rows}
 use Rattle.lookup.proofs.Insertion.{long}
 use Rattle.replay.specs.Slots.{Collects, slot_at}
-use Rattle.replay.proofs.Collecting.{collects_none, collects_fresh, collects_more, collects_skip}
+use Rattle.replay.proofs.Collecting.{collects_fresh, collects_more, collects_skip}
 use Rattle.replay.proofs.Nothing.{nothing}
 use Rattle.replay.proofs.pages.Pages.collect.Goals as goal
 use Rattle.replay.proofs.pages.Pages.collect.Goals.{in-Some, in_default}
