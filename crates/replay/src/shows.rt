@@ -17,6 +17,7 @@ fn said_to(says: Says, key: &Key) -> bool
     }
 }
 
+// A page is named by its index, so that each asks, as an element of a slice does, that it is below the number of pages.
 impl Pages<'_> {
     // Whether the page at `i` counts.
     fn counts(&self, i: usize) -> bool
