@@ -1,5 +1,6 @@
 -- Bytes that are cleared by others, byte by byte.
-use Rattle.std.proofs.Common.{◌≡◌, ℕ, zero, suc, ◌<◌, ◌≤◌, List, [], ◌∷◌, length, get_or, take, refl, ap, arith}
+use Rattle.std.proofs.Common.{◌≡◌, ℕ, zero, suc, ◌<◌, ◌≤◌, List, [], ◌∷◌, ◌++◌, length, get_or, take, drop, sym, refl, ap, ◌∙◌, arith}
+use Rattle.std.proofs.Math.ListN.{set}
 use lib.Bits.{bit_and}
 use Rattle.flash.specs.Chip.{cleared}
 
@@ -19,3 +20,15 @@ take_cleared zero o w = refl
 take_cleared (suc n) [] w = refl
 take_cleared (suc n) (x ∷ o) [] = refl
 take_cleared (suc n) (x ∷ o) (y ∷ w) = ap (λ zs. bit_and x y ∷ zs) (take_cleared n o w)
+
+-- one byte more is cleared
+pub cleared_more : (k n : ℕ) (o w : List ℕ) → n ≡ suc k → k < length o → k < length w
+    → set (cleared (take k o) w ++ drop k o) k (bit_and (get_or (cleared (take k o) w ++ drop k o) k 0) (get_or w k 0)) ≡ cleared (take n o) w ++ drop n o
+cleared_more k n o w e h l = step k o w h l ∙ ap (λ i. cleared (take i o) w ++ drop i o) (sym e)
+  where
+    step : (k : ℕ) (o w : List ℕ) → k < length o → k < length w
+        → set (cleared (take k o) w ++ drop k o) k (bit_and (get_or (cleared (take k o) w ++ drop k o) k 0) (get_or w k 0)) ≡ cleared (take (suc k) o) w ++ drop (suc k) o
+    step k [] w h l = absurd (omega arith)
+    step k (x ∷ o) [] h l = absurd (omega arith)
+    step zero (x ∷ o) (y ∷ w) h l = refl
+    step (suc k) (x ∷ o) (y ∷ w) h l = ap (λ zs. bit_and x y ∷ zs) (step k o w (omega arith) (omega arith))

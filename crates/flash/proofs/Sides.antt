@@ -1,9 +1,8 @@
 -- What one of two flashes does, the two end to end do.
-use Rattle.std.proofs.Common.{◌≡◌, ℕ, ◌+◌, ◌-◌, ◌*◌, ◌<◌, ◌≤◌, min, true, false, ◌&&◌, ◌≢◌, List, length, Ok, Err, Result, sym, refl, ap, ◌∙◌, subst, mul-le-mul_left, mul-add, arith, length-set}
+use Rattle.std.proofs.Common.{◌≡◌, ℕ, ◌+◌, ◌-◌, ◌*◌, ◌<◌, ◌≤◌, min, true, false, ◌&&◌, ◌≢◌, List, length, Ok, Err, sym, refl, ap, ◌∙◌, subst, mul-le-mul_left, mul-add, arith, length-set}
 use native.Mathlib.Decide.{dec_lt, ℕ_discrete}
 use borrow.Author.Tests.{both_ways}
 use Rattle.std.proofs.lemmas.Bool.{and_from, and_right}
-use Rattle.flash.specs.declared.fault.FlashFault.{FlashFault}
 use Rattle.flash.specs.declared.fault.FlashFault.TheVariants.{Off, Range, Program, Erase}
 use Rattle.flash.specs.Chip.{Chip, Torn, Mixed, filled, page, cleared, programmed, erased}
 use Rattle.flash.specs.Joined.{joined, joined_blocks, retold}
@@ -11,9 +10,7 @@ use Rattle.flash.specs.Joins.{Shaped, first_within, joined_long, look_first, loo
 use Rattle.flash.specs.Says.{Reads, Programs, Erases}
 use Rattle.flash.proofs.Chips.{chip_ext, mixed_same, programmed_here, programmed_else}
 use Rattle.flash.proofs.Erasing.{erased_long, erased_below, erased_inside, erased_above}
-
-abbrev Answer : Type 0
-Answer = Result (Unit {0}) FlashFault
+use Rattle.flash.proofs.Refusals.{Answer}
 
 -- a block lies within its chip
 pub block_within : (n : ℕ) (c : Chip) (k : ℕ) → Shaped n c → k < c.blocks → c.per_block * k + c.per_block ≤ length c.pages

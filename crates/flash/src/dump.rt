@@ -1,9 +1,9 @@
 // Bytes held for reading, as a flash that is only read. Its power is always on.
-ghost use Rattle.std.specs.Prelude.{◌≡◌, true, length, refl};
+ghost use Rattle.std.specs.Prelude.{◌≡◌, true, refl};
 ghost use Rattle.flash.specs.Cuts.{image_formed};
 ghost use Rattle.flash.specs.Image.{image_chip};
 
-use crate::bytes::{IMAGE_PAGES_PER_BLOCK, blocks_in, copy_page_out};
+use crate::bytes::{IMAGE_PAGES_PER_BLOCK, blocks_in, read_page};
 use crate::fault::FlashFault;
 use crate::traits::ReadFlash;
 
@@ -20,7 +20,7 @@ impl<'a> DumpFlash<'a> {
     }
 }
 
-impl<'a> ReadFlash for DumpFlash<'a> {
+impl ReadFlash for DumpFlash<'_> {
     const PAGES_PER_BLOCK: usize = IMAGE_PAGES_PER_BLOCK;
 
     ghost per_block = { 16 };
@@ -46,10 +46,6 @@ impl<'a> ReadFlash for DumpFlash<'a> {
     }
 
     fn read(&self, page: usize, out: &mut [u8]) -> Result<(), FlashFault> {
-        if page >= Self::PAGES_PER_BLOCK * self.blocks() {
-            return Err(FlashFault::Range);
-        }
-        copy_page_out(self.bytes, page, out);
-        Ok(())
+        read_page(self.bytes, true, page, out)
     }
 }

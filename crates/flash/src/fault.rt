@@ -20,10 +20,8 @@ impl FlashFault {
         ensures { result ≡ number_of self.now }
     {
         match self {
-            FlashFault::Off => 10,
             FlashFault::Range => 0,
-            FlashFault::Program { .. } => 10,
-            FlashFault::Erase { .. } => 10,
+            FlashFault::Off | FlashFault::Program { .. } | FlashFault::Erase { .. } => 10,
         }
     }
 
@@ -31,8 +29,8 @@ impl FlashFault {
     pub fn page(&self) -> Option<usize>
         ensures { result ≡ page_told self.now }
     {
-        match self {
-            FlashFault::Program { page } => Some(*page),
+        match *self {
+            FlashFault::Program { page } => Some(page),
             _ => None,
         }
     }
@@ -41,8 +39,8 @@ impl FlashFault {
     pub fn block(&self) -> Option<usize>
         ensures { result ≡ block_told self.now }
     {
-        match self {
-            FlashFault::Erase { block } => Some(*block),
+        match *self {
+            FlashFault::Erase { block } => Some(block),
             _ => None,
         }
     }
@@ -53,10 +51,10 @@ pub(crate) fn admit(on: bool, within: bool) -> Result<(), FlashFault>
     ensures { Admits on within result }
 {
     if !on {
-        return Err(FlashFault::Off);
+        Err(FlashFault::Off)
+    } else if !within {
+        Err(FlashFault::Range)
+    } else {
+        Ok(())
     }
-    if !within {
-        return Err(FlashFault::Range);
-    }
-    Ok(())
 }

@@ -2,6 +2,7 @@
 ghost use Rattle.std.specs.Prelude.{◌≡◌};
 ghost use Rattle.flash.specs.Fuses.{blows_at, burnt_of, reach_of};
 
+// Not an `Option`: what a fuse does in either state are its methods, and an `Option` can have none of ours.
 #[derive(Clone, Copy, PartialEq, Eq, Debug)]
 pub enum Fuse {
     /// Power never goes.
@@ -15,25 +16,16 @@ impl Fuse {
     pub fn blows(&self) -> bool
         ensures { result ≡ blows_at self.now }
     {
-        match self {
-            Fuse::Intact => false,
-            Fuse::Set { before, .. } => *before == 0,
-        }
+        matches!(self, Fuse::Set { before: 0, .. })
     }
 
     /// How many of so many bytes the next program or erase makes final.
     pub fn reach(&self, bytes: usize) -> usize
         ensures { result ≡ reach_of self.now bytes }
     {
-        match self {
-            Fuse::Intact => bytes,
-            Fuse::Set { before, leading } => {
-                if *before == 0 {
-                    bytes.min(*leading)
-                } else {
-                    bytes
-                }
-            }
+        match *self {
+            Fuse::Set { before: 0, leading } => bytes.min(leading),
+            _ => bytes,
         }
     }
 
@@ -41,18 +33,12 @@ impl Fuse {
     pub fn burnt(&self) -> Fuse
         ensures { result ≡ burnt_of self.now }
     {
-        match self {
-            Fuse::Intact => Fuse::Intact,
-            Fuse::Set { before, leading } => {
-                if *before == 0 {
-                    Fuse::Intact
-                } else {
-                    Fuse::Set {
-                        before: *before - 1,
-                        leading: *leading,
-                    }
-                }
-            }
+        match *self {
+            Fuse::Intact | Fuse::Set { before: 0, .. } => Fuse::Intact,
+            Fuse::Set { before, leading } => Fuse::Set {
+                before: before - 1,
+                leading,
+            },
         }
     }
 }

@@ -7,7 +7,7 @@ ghost use Rattle.flash.specs.Joins.{joined_formed};
 ghost use Rattle.flash.specs.Says.{Erases, Programs};
 
 use crate::fault::{FlashFault, admit};
-use crate::traits::{Flash, MOST_BLOCKS, ReadFlash};
+use crate::traits::{Flash, MOST_BLOCKS, PAGE_BYTES, ReadFlash, page_count};
 
 #[derive(Drop)]
 pub struct JoinedFlash<A, B> {
@@ -26,13 +26,13 @@ impl<A, B> JoinedFlash<A, B> {
 impl<A: ReadFlash, B: ReadFlash> ReadFlash for JoinedFlash<A, B> {
     const PAGES_PER_BLOCK: usize = A::PAGES_PER_BLOCK;
 
-    ghost per_block = { A.ReadFlash.per_block };
+    ghost per_block = { A.per_block };
 
-    ghost sixteen = { A.ReadFlash.sixteen };
+    ghost sixteen = { A.sixteen };
 
-    ghost chip = { λ s. joined (A.ReadFlash.chip s.first) (B.ReadFlash.chip s.second) };
+    ghost chip = { λ s. joined (A.chip s.first) (B.chip s.second) };
 
-    ghost formed = { λ s. joined_formed A.ReadFlash.per_block B.ReadFlash.per_block (A.ReadFlash.chip s.first) (B.ReadFlash.chip s.second) (B.ReadFlash.sixteen ∙ sym A.ReadFlash.sixteen) (A.ReadFlash.formed s.first) (B.ReadFlash.formed s.second) };
+    ghost formed = { λ s. joined_formed A.per_block B.per_block (A.chip s.first) (B.chip s.second) (B.sixteen ∙ sym A.sixteen) (A.formed s.first) (B.formed s.second) };
 
     fn block_pages() -> usize {
         A::block_pages()
@@ -47,8 +47,9 @@ impl<A: ReadFlash, B: ReadFlash> ReadFlash for JoinedFlash<A, B> {
     }
 
     fn read(&self, page: usize, out: &mut [u8]) -> Result<(), FlashFault> {
+        // Not by `page_count`, whose bound leads back to this call.
         admit(self.is_on(), page < A::block_pages() * self.blocks())?;
-        let split = A::block_pages() * self.first.blocks();
+        let split = page_count(&self.first);
         if page < split {
             self.first.read(page, out)
         } else {
@@ -61,20 +62,20 @@ impl<A: ReadFlash, B: ReadFlash> ReadFlash for JoinedFlash<A, B> {
 fn retell(place: usize, answer: Result<(), FlashFault>) -> Result<(), FlashFault>
     ensures { result ≡ retold place answer }
 {
-    match answer {
-        Err(FlashFault::Program { .. }) => Err(FlashFault::Program { page: place }),
-        Err(FlashFault::Erase { .. }) => Err(FlashFault::Erase { block: place }),
+    answer.map_err(|fault| match fault {
+        FlashFault::Program { .. } => FlashFault::Program { page: place },
+        FlashFault::Erase { .. } => FlashFault::Erase { block: place },
         other => other,
-    }
+    })
 }
 
 impl<A: Flash, B: Flash> Flash for JoinedFlash<A, B> {
-    fn program(&mut self, page: usize, bytes: &[u8; 256]) -> Result<(), FlashFault>
-        ensures says { Programs (joined (A.ReadFlash.chip self.old.first) (B.ReadFlash.chip self.old.second)) page bytes.now result (joined (A.ReadFlash.chip self.new.first) (B.ReadFlash.chip self.new.second)) }
-        ensures one { ProgramsOne (A.ReadFlash.chip self.old.first) (B.ReadFlash.chip self.old.second) page bytes.now result (A.ReadFlash.chip self.new.first) (B.ReadFlash.chip self.new.second) }
+    fn program(&mut self, page: usize, bytes: &[u8; PAGE_BYTES]) -> Result<(), FlashFault>
+        ensures says { Programs (⟦<Self as ReadFlash>⟧.chip self.old) page bytes.now result (⟦<Self as ReadFlash>⟧.chip self.new) }
+        ensures one { ProgramsOne (A.chip self.old.first) (B.chip self.old.second) page bytes.now result (A.chip self.new.first) (B.chip self.new.second) }
     {
-        admit(self.is_on(), page < A::block_pages() * self.blocks())?;
-        let split = A::block_pages() * self.first.blocks();
+        admit(self.is_on(), page < page_count(self))?;
+        let split = page_count(&self.first);
         if page < split {
             self.first.program(page, bytes)
         } else {
@@ -83,8 +84,8 @@ impl<A: Flash, B: Flash> Flash for JoinedFlash<A, B> {
     }
 
     fn erase(&mut self, block: usize) -> Result<(), FlashFault>
-        ensures says { Erases (joined (A.ReadFlash.chip self.old.first) (B.ReadFlash.chip self.old.second)) block result (joined (A.ReadFlash.chip self.new.first) (B.ReadFlash.chip self.new.second)) }
-        ensures one { ErasesOne (A.ReadFlash.chip self.old.first) (B.ReadFlash.chip self.old.second) block result (A.ReadFlash.chip self.new.first) (B.ReadFlash.chip self.new.second) }
+        ensures says { Erases (⟦<Self as ReadFlash>⟧.chip self.old) block result (⟦<Self as ReadFlash>⟧.chip self.new) }
+        ensures one { ErasesOne (A.chip self.old.first) (B.chip self.old.second) block result (A.chip self.new.first) (B.chip self.new.second) }
     {
         admit(self.is_on(), block < self.blocks())?;
         let split = self.first.blocks();
@@ -97,8 +98,8 @@ impl<A: Flash, B: Flash> Flash for JoinedFlash<A, B> {
 
     // Powers both.
     fn power_up(&mut self)
-        ensures says { joined (A.ReadFlash.chip self.new.first) (B.ReadFlash.chip self.new.second) ≡ powered (joined (A.ReadFlash.chip self.old.first) (B.ReadFlash.chip self.old.second)) true }
-        ensures both { (A.ReadFlash.chip self.new.first ≡ powered (A.ReadFlash.chip self.old.first) true) × (B.ReadFlash.chip self.new.second ≡ powered (B.ReadFlash.chip self.old.second) true) }
+        ensures says { ⟦<Self as ReadFlash>⟧.chip self.new ≡ powered (⟦<Self as ReadFlash>⟧.chip self.old) true }
+        ensures both { (A.chip self.new.first ≡ powered (A.chip self.old.first) true) × (B.chip self.new.second ≡ powered (B.chip self.old.second) true) }
     {
         self.first.power_up();
         self.second.power_up();

@@ -13,7 +13,7 @@ pub const MOST_BLOCKS: usize = 1000;
 
 /// A flash that can be read.
 pub trait ReadFlash {
-    /// Pages in a block. No clause can cite it, so `per_block` is its value and `block_pages` answers it.
+    /// Pages in a block. No clause can cite it where the type has a lifetime, so `per_block` is its value and `block_pages` answers it.
     const PAGES_PER_BLOCK: usize;
 
     ghost per_block: { ℕ };
@@ -42,21 +42,21 @@ pub trait ReadFlash {
 /// A flash that can also be changed.
 pub trait Flash: ReadFlash {
     /// Each bit of the page ends as old AND given, unless power goes.
-    fn program(&mut self, page: usize, bytes: &[u8; 256]) -> Result<(), FlashFault>
-        ensures says { Programs (Self.ReadFlash.chip self.old) page bytes.now result (Self.ReadFlash.chip self.new) };
+    fn program(&mut self, page: usize, bytes: &[u8; PAGE_BYTES]) -> Result<(), FlashFault>
+        ensures says { Programs (Self.chip self.old) page bytes.now result (Self.chip self.new) };
 
     /// Each bit of the block ends as 1, unless power goes.
     fn erase(&mut self, block: usize) -> Result<(), FlashFault>
-        ensures says { Erases (Self.ReadFlash.chip self.old) block result (Self.ReadFlash.chip self.new) };
+        ensures says { Erases (Self.chip self.old) block result (Self.chip self.new) };
 
     /// Always succeeds, and alters no bit.
     fn power_up(&mut self)
-        ensures says { Self.ReadFlash.chip self.new ≡ powered (Self.ReadFlash.chip self.old) true };
+        ensures says { Self.chip self.new ≡ powered (Self.chip self.old) true };
 }
 
 /// How many pages the flash has.
 pub fn page_count<F: ReadFlash>(flash: &F) -> usize
-    ensures { result ≡ length (F.ReadFlash.chip flash.now).pages }
+    ensures { result ≡ length (F.chip flash.now).pages }
 {
     F::block_pages() * flash.blocks()
 }

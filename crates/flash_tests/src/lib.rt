@@ -6,3 +6,5 @@
 mod fuse;
 #[cfg(test)]
 mod kinds;
+#[cfg(test)]
+mod sizes;

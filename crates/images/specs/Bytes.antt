@@ -1,15 +1,20 @@
 -- The bytes that are programmed for a page of an example.
-use Rattle.std.specs.Prelude.{ℕ, ◌+◌, ◌-◌, min, cond, List, ◌++◌, take, drop, replicate, Some, None, Ok, Err, Option, Result}
+use Rattle.std.specs.Prelude.{ℕ, ◌+◌, ◌-◌, min, cond, List, ◌++◌, take, drop, replicate, codes, Some, None, Ok, Err, Option, Result}
 use Rattle.page.specs.Code.{zero_count}
 use Rattle.page.specs.Encoded.{be16, encoded}
 use Rattle.page.specs.Fits.{fits}
 use Rattle.page.specs.declared.fields.Content.{Content}
 use Rattle.page.specs.declared.fields.Header.{Header}
 use Rattle.images.specs.declared.bytes.ImageFault.{ImageFault}
-use Rattle.images.specs.declared.bytes.ImageFault.TheVariants.{Unfit}
+use Rattle.images.specs.declared.bytes.ImageFault.TheVariants.{Unfit, Place}
 use Rattle.images.specs.declared.placed.Manner.{Manner}
 use Rattle.images.specs.declared.placed.Manner.TheVariants.{Altered, Torn, Whole}
 use Rattle.images.specs.declared.placed.Placed.{Placed}
+
+-- why an example is not on the chip, in words
+abbrev pub told : ImageFault → List ℕ
+told Unfit = codes "a field is out of its range, or a name is not allowed"
+told Place = codes "a page stands past the chip's end, or its power is off"
 
 -- how many of `count` bytes from `at` on a page has
 abbrev pub reached : ℕ → ℕ → ℕ

@@ -1,7 +1,8 @@
 // Chips whose data pages make no sense, alone or together.
-use crate::foreign::{sixteen_keys, sixty_files};
+use crate::foreign::{nested, sixteen_keys, sixty_files};
 use crate::placed::{Placed, at};
 use crate::stored::{ARC, CAL, ROOT};
+use std::array::from_fn;
 
 /// Pages with one field out of its range, by what is wrong: each is damage wherever it stands.
 pub fn fields_out_of_range() -> [(&'static str, Placed); 12] {
@@ -75,11 +76,7 @@ pub fn directories_in_a_ring() -> [Placed; 2] {
 
 /// Eight directories, each within the one before, and a file in the last.
 pub fn nine_names() -> [Placed; 9] {
-    let mut pages = [at(0, 1); 9];
-    for i in 0..8u8 {
-        let file = 1 + i as u32;
-        pages[i as usize] = at(i as usize, file).directory(file, i as u32, b"d");
-    }
+    let mut pages = from_fn(|i| nested(i, b"d"));
     pages[8] = at(8, 9).file(9, 8, b"arc", 0);
     pages
 }
@@ -110,13 +107,13 @@ pub fn chunk_of_a_directory() -> [Placed; 2] {
 /// One file too many.
 pub fn sixty_one_files() -> [Placed; 61] {
     let mut pages = [at(60, 200).file(200, ROOT, b"arc", 0); 61];
-    pages[0..60].copy_from_slice(&sixty_files());
+    pages[..60].copy_from_slice(&sixty_files());
     pages
 }
 
 /// One key too many for four blocks.
 pub fn seventeen_keys() -> [Placed; 18] {
     let mut pages = [at(17, 19).directory(19, ROOT, b"cal"); 18];
-    pages[0..17].copy_from_slice(&sixteen_keys());
+    pages[..17].copy_from_slice(&sixteen_keys());
     pages
 }

@@ -1,6 +1,9 @@
 // Chips that no store of this make would leave, and that read right all the same.
+ghost use Rattle.std.specs.Prelude.{◌+◌, ◌^◌, ◌<◌};
+
 use crate::placed::{Placed, at};
 use crate::stored::{ARC, CAL, ROOT};
+use std::array::from_fn;
 
 /// One-byte names, and parts of it longer ones.
 static NAMES: [u8; 62] = *b"ABCDEFGHIJKLMNOPQRSTUVWXYZabcdefghijklmnopqrstuvwxyz0123456789";
@@ -103,14 +106,17 @@ pub fn unlisted_bits_at_0() -> [Placed; 7] {
     ]
 }
 
+// One of a chain of directories, each within the one before; the first stands in the root.
+pub(crate) fn nested(depth: usize, name: &[u8]) -> Placed
+    requires { depth + 1 < 2 ^ 32 }
+{
+    let within = depth as u32;
+    at(depth, within + 1).directory(within + 1, within, name)
+}
+
 /// Eight names of 24 bytes, and the longest file: as long a line as there is.
 pub fn longest_path() -> [Placed; 9] {
-    let mut pages = [at(0, 1); 9];
-    for i in 0..7u8 {
-        let name = &NAMES[i as usize..i as usize + 24];
-        let file = 1 + i as u32;
-        pages[i as usize] = at(i as usize, file).directory(file, i as u32, name);
-    }
+    let mut pages = from_fn(|i| nested(i, &NAMES[i..i + 24]));
     pages[7] = at(7, 8).file(8, 7, &NAMES[7..31], 7168);
     pages[8] = at(8, 9).chunk(8, 31, b"");
     pages
@@ -118,20 +124,12 @@ pub fn longest_path() -> [Placed; 9] {
 
 /// As many files as there may be, the last one with the lowest number.
 pub fn sixty_files() -> [Placed; 60] {
-    let mut pages = [at(0, 1); 60];
-    for i in 0..60u8 {
-        let name = &NAMES[i as usize..i as usize + 1];
-        pages[i as usize] = at(i as usize, 60 + i as u32).file(60 - i as u32, ROOT, name, 0);
-    }
-    pages
+    from_fn(|i| at(i, 60 + i as u32).file(60 - i as u32, ROOT, &NAMES[i..i + 1], 0))
 }
 
 /// As many keys as four blocks allow, and a chunk of no file, which is none.
 pub fn sixteen_keys() -> [Placed; 17] {
-    let mut pages = [at(0, 1); 17];
-    for i in 0..15u8 {
-        pages[i as usize] = at(i as usize, 2 + i as u32).chunk(1, i, b"");
-    }
+    let mut pages = from_fn(|i| at(i, 2 + i as u32).chunk(1, i as u8, b""));
     pages[15] = at(15, 17).file(1, ROOT, b"arc", 3137);
     pages[16] = at(16, 18).chunk(9, 0, b"");
     pages

@@ -8,7 +8,7 @@ ghost use Rattle.images.specs.declared.placed.Manner.TheVariants.{Altered, Torn}
 use page::{CHUNK_BYTES, Chunk, Content, Entry, EntryKind, Header, Name};
 
 /// What happens to the bytes of a page on their way to the chip.
-#[derive(Clone, Copy)]
+#[derive(Clone, Copy, PartialEq, Eq, Debug)]
 pub enum Manner {
     /// Nothing.
     Whole,
@@ -18,7 +18,7 @@ pub enum Manner {
     Altered { at: usize, count: usize, byte: u8 },
 }
 
-#[derive(Clone, Copy)]
+#[derive(Clone, Copy, PartialEq, Eq, Debug)]
 pub struct Placed {
     /// The page of the chip.
     pub place: usize,
@@ -47,43 +47,28 @@ pub fn at(place: usize, number: u32) -> Placed
 }
 
 impl Placed {
-    pub fn floor(self, floor: u32) -> Placed
+    pub fn floor(mut self, floor: u32) -> Placed
         ensures { result ≡ floored self floor }
     {
-        Placed {
-            header: Header {
-                floor,
-                ..self.header
-            },
-            ..self
-        }
+        self.header.floor = floor;
+        self
     }
 
     /// One page of a group.
-    pub fn group(self, index: u8, size: u8) -> Placed
+    pub fn group(mut self, index: u8, size: u8) -> Placed
         ensures { result ≡ grouped self index size }
     {
-        Placed {
-            header: Header {
-                index,
-                size,
-                ..self.header
-            },
-            ..self
-        }
+        self.header.index = index;
+        self.header.size = size;
+        self
     }
 
-    fn says(self, file: u32, content: Option<Content>) -> Placed
+    fn says(mut self, file: u32, content: Option<Content>) -> Placed
         ensures { result ≡ saying self file content }
     {
-        Placed {
-            header: Header {
-                file,
-                ..self.header
-            },
-            content,
-            ..self
-        }
+        self.header.file = file;
+        self.content = content;
+        self
     }
 
     pub fn directory(self, file: u32, within: u32, name: &[u8]) -> Placed
@@ -112,37 +97,32 @@ impl Placed {
         self.says(file, Some(Content::Gone))
     }
 
-    pub fn torn(self, leading: usize) -> Placed
+    pub fn torn(mut self, leading: usize) -> Placed
         ensures { result ≡ mannered self (Torn leading) }
     {
-        Placed {
-            manner: Manner::Torn { leading },
-            ..self
-        }
+        self.manner = Manner::Torn { leading };
+        self
     }
 
-    pub fn altered(self, at: usize, count: usize, byte: u8) -> Placed
+    pub fn altered(mut self, at: usize, count: usize, byte: u8) -> Placed
         ensures { result ≡ mannered self (Altered at count byte) }
     {
-        Placed {
-            manner: Manner::Altered { at, count, byte },
-            ..self
-        }
+        self.manner = Manner::Altered { at, count, byte };
+        self
     }
 }
 
 fn entry(directory: u32, kind: EntryKind, length: u16, name: &[u8]) -> Option<Content>
     ensures { result ≡ entry_of directory kind length name.now }
 {
-    match Name::new(name) {
-        Some(name) => Some(Content::Entry(Entry {
+    Name::new(name).map(|name| {
+        Content::Entry(Entry {
             directory,
             kind,
             length,
             name,
-        })),
-        None => None,
-    }
+        })
+    })
 }
 
 fn chunk_bytes(text: &[u8]) -> [u8; CHUNK_BYTES]
@@ -150,6 +130,6 @@ fn chunk_bytes(text: &[u8]) -> [u8; CHUNK_BYTES]
 {
     let mut bytes = [0; CHUNK_BYTES];
     let len = CHUNK_BYTES.min(text.len());
-    bytes[0..len].copy_from_slice(&text[0..len]);
+    bytes[..len].copy_from_slice(&text[..len]);
     bytes
 }

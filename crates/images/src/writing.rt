@@ -16,8 +16,7 @@ impl Manner {
                 before: 0,
                 leading: *leading,
             },
-            Manner::Whole => Fuse::Intact,
-            Manner::Altered { .. } => Fuse::Intact,
+            Manner::Whole | Manner::Altered { .. } => Fuse::Intact,
         }
     }
 }
@@ -38,6 +37,7 @@ fn recover(flash: &mut ImageFlash, fault: FlashFault) -> Result<(), ImageFault>
 fn program(flash: &mut ImageFlash, place: usize, bytes: &[u8; PAGE_BYTES]) -> Result<(), ImageFault>
     ensures { Programs (view flash.old) place bytes.now result (view flash.new) }
 {
+    // A `match`: `or_else` would say nothing of the image where nothing is refused.
     match flash.program(place, bytes) {
         Ok(()) => Ok(()),
         Err(fault) => recover(flash, fault),
@@ -57,9 +57,8 @@ pub fn put(flash: &mut ImageFlash, placed: &Placed) -> Result<(), ImageFault>
 pub fn write(flash: &mut ImageFlash, pages: &[Placed]) -> Result<(), ImageFault>
     ensures { Writes (view flash.old) pages.now result (view flash.new) }
 {
-    let [first, rest @ ..] = pages else {
-        return Ok(());
-    };
-    put(flash, first)?;
-    write(flash, rest)
+    for placed in pages {
+        put(flash, placed)?;
+    }
+    Ok(())
 }

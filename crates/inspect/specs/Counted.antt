@@ -14,14 +14,9 @@ use Rattle.inspect.specs.declared.census.Numbers.{Numbers}
 -- whether two states are the same
 abbrev pub same_state : PageState → PageState → Bool
 same_state Erased Erased = true
-same_state Erased Data = false
-same_state Erased Spoilt = false
-same_state Data Erased = false
 same_state Data Data = true
-same_state Data Spoilt = false
-same_state Spoilt Erased = false
-same_state Spoilt Data = false
 same_state Spoilt Spoilt = true
+same_state _ _ = false
 
 -- how many of the pages are in this state
 abbrev pub in_state : PageState → List (List ℕ) → ℕ

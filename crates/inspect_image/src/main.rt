@@ -7,7 +7,7 @@ ghost use Rattle.flash.specs.Image.{image_chip};
 ghost use Rattle.inspect.specs.Counted.{Inspects};
 
 use anyhow::anyhow;
-use flash::{DumpFlash, ReadFlash};
+use flash::{DumpFlash, ReadFlash, page_count};
 use inspect::{Census, inspect_pages};
 use std::io::Read;
 
@@ -15,58 +15,31 @@ use std::io::Read;
 fn counted(dump: &DumpFlash, first: usize, end: usize) -> anyhow::Result<Census>
     ensures { IfOk result (λ census. Inspects (image_chip dump.now.bytes.now true) first end (Ok census)) }
 {
-    let Ok(census) = inspect_pages(dump, first, end) else {
-        return Err(anyhow!("the image cannot be read"));
-    };
-    Ok(census)
+    inspect_pages(dump, first, end).map_err(|_| anyhow!("the image cannot be read"))
 }
 
 fn print_block(rt: &HostRuntime, dump: &DumpFlash, block: usize) -> anyhow::Result<()> {
-    let first = <DumpFlash<'_> as ReadFlash>::block_pages().saturating_mul(block);
-    let census = counted(
-        dump,
-        first,
-        first.saturating_add(<DumpFlash<'_> as ReadFlash>::block_pages()),
-    )?;
-    let Census {
-        data,
-        spoilt,
-        erased,
-        numbers,
-    } = census;
-    print!(rt; "block {block}: {data} data, {spoilt} spoilt, {erased} erased")?;
-    if let Some(numbers) = numbers {
-        let lowest = numbers.lowest;
-        let highest = numbers.highest;
-        print!(rt; ", numbers {lowest} to {highest}")?;
+    let pages = DumpFlash::block_pages();
+    let first = pages.saturating_mul(block);
+    let census = counted(dump, first, first.saturating_add(pages))?;
+    print!(rt; "block {block}: {census}")?;
+    if let Some(numbers) = census.numbers {
+        print!(rt; ", numbers {numbers}")?;
     }
     println!(rt; "")?;
     Ok(())
 }
 
-fn run(rt: &HostRuntime) -> anyhow::Result<()> {
+fn main(rt: HostRuntime) -> anyhow::Result<()> {
     let mut image = Vec::new(rt.alloc());
     rt.stdin().read_to_end(&mut image)?;
     let dump = DumpFlash::new(&image);
     let blocks = dump.blocks();
     println!(rt; "blocks {blocks}")?;
     for block in 0..blocks {
-        print_block(rt, &dump, block)?;
+        print_block(&rt, &dump, block)?;
     }
-    let Census {
-        data,
-        spoilt,
-        erased,
-        ..
-    } = counted(
-        &dump,
-        0,
-        <DumpFlash<'_> as ReadFlash>::block_pages().saturating_mul(blocks),
-    )?;
-    println!(rt; "total: {data} data, {spoilt} spoilt, {erased} erased")?;
+    let total = counted(&dump, 0, page_count(&dump))?;
+    println!(rt; "total: {total}")?;
     Ok(())
-}
-
-fn main(rt: HostRuntime) -> anyhow::Result<()> {
-    run(&rt)
 }

@@ -7,8 +7,9 @@ use Rattle.page.specs.Pasted.{pasted}
 use Rattle.page.proofs.Pasting.{pasted_none}
 use Rattle.tree.specs.Tree.{Entries}
 use Rattle.listing.specs.Listing.{letter, line, LineOf, Lines}
-use Rattle.listing.specs.Writes.{Writes}
-use Rattle.listing.proofs.Writing.{writes_as, writes_more}
+use Rattle.listing.specs.declared.pen.Pen.{Pen}
+use Rattle.listing.specs.Writes.{Adds, Writes}
+use Rattle.listing.proofs.Writing.{adds_as, adds_more}
 
 -- a file's length has at most four digits
 pub digits_short : (n : ℕ) → n ≤ 7168 → length (decimal n) ≤ 4
@@ -19,21 +20,20 @@ line_short e path le short =
     omega (arith, digits_short e.length le, length-append (decimal e.length) (32 ∷ (path ++ (10 ∷ []))), length-append path (10 ∷ []))
 
 -- the parts of a line, written one after another
-pub writes_line : (p q r s t u : List ℕ) (at i j k l m : ℕ) (e : Entry) (path : List ℕ) → at + 208 ≤ length p → e.length ≤ 7168 → length path ≤ 200
-    → Writes p at (letter e.kind ∷ (32 ∷ [])) i q → Writes q i (decimal e.length) j r → Writes r j (32 ∷ []) k s → Writes s k path l t → Writes t l (10 ∷ []) m u
-    → Writes p at (line e path) m u
-writes_line p q r s t u at i j k l m e path room le short a b c d f =
+pub adds_line : (p q r s t u : Pen) (e : Entry) (path : List ℕ) → p.end + 208 ≤ length p.out.now → e.length ≤ 7168 → length path ≤ 200
+    → Adds p (letter e.kind ∷ (32 ∷ [])) q → Adds q (decimal e.length) r → Adds r (32 ∷ []) s → Adds s path t → Adds t (10 ∷ []) u → Adds p (line e path) u
+adds_line p q r s t u e path room le short a b c d f =
     let ds = decimal e.length in
     let x = letter e.kind ∷ (32 ∷ []) in
     let few = digits_short e.length le in
     let one = length-append x ds in
     let two = length-append (x ++ ds) (32 ∷ []) in
     let three = length-append ((x ++ ds) ++ (32 ∷ [])) path in
-    writes_as p u at m ((((x ++ ds) ++ (32 ∷ [])) ++ path) ++ (10 ∷ [])) (line e path) (simp append_assoc)
-    (writes_more p t u at l m (((x ++ ds) ++ (32 ∷ [])) ++ path) (10 ∷ []) (omega (arith, one, two, three))
-    (writes_more p s t at k l ((x ++ ds) ++ (32 ∷ [])) path (omega (arith, one, two))
-    (writes_more p r s at j k (x ++ ds) (32 ∷ []) (omega (arith, one))
-    (writes_more p q r at i j x ds (omega arith) a b) c) d) f)
+    adds_as p u ((((x ++ ds) ++ (32 ∷ [])) ++ path) ++ (10 ∷ [])) (line e path) (simp append_assoc)
+    (adds_more p t u (((x ++ ds) ++ (32 ∷ [])) ++ path) (10 ∷ []) (omega (arith, one, two, three))
+    (adds_more p s t ((x ++ ds) ++ (32 ∷ [])) path (omega (arith, one, two))
+    (adds_more p r s (x ++ ds) (32 ∷ []) (omega (arith, one))
+    (adds_more p q r x ds (omega arith) a b) c) d) f)
 
 -- one more line
 pub lines_more : (E : Entries) (files : List ℕ) (file : ℕ) (text one : List ℕ) → Lines E files text → LineOf E file one → Lines E (files ++ (file ∷ [])) (text ++ one)
@@ -42,8 +42,8 @@ lines_more E (f ∷ files) file text one (first, is, rest, ls, e) l =
     (first, is, rest ++ one, lines_more E files file rest one ls l, ap (λ (t : List ℕ). t ++ one) e ∙ append_assoc first rest one)
 
 -- nothing is written yet
-pub writes_none : (p : List ℕ) → Writes p 0 [] 0 p
-writes_none p = record { ends = refl; buffer = sym (pasted_none p 0) }
+pub adds_none : (p : Pen) → Adds p [] p
+adds_none p = record { same = refl; long = refl; writes = record { ends = omega arith; buffer = sym (pasted_none p.out.now p.end) } }
 
 -- a text at the front
 pub writes_front : (p q text : List ℕ) (end : ℕ) → Writes p 0 text end q → (end ≡ length text) × (q ≡ text ++ drop (length text) p)

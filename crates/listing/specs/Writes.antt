@@ -6,6 +6,7 @@ use Rattle.tree.specs.declared.node.Node.{Node}
 use Rattle.tree.specs.declared.table.Tree.{Tree}
 use Rattle.tree.specs.Tree.{Entries, Stands}
 use Rattle.listing.specs.Listing.{LineOf, Lists}
+use Rattle.listing.specs.declared.pen.Pen.{Pen}
 
 -- the text stands from `at` up to `end`, and all else is as it was
 pub record Writes (before : List ℕ) (at : ℕ) (text : List ℕ) (end : ℕ) (after : List ℕ) : Type 0 where
@@ -17,13 +18,19 @@ abbrev pub Above : Entries → Node → Option Node → Type 0
 Above E node None = node.entry.directory ≡ 0
 Above E node (Some d) = (node.entry.directory ≢ 0) × (d.file ≡ node.entry.directory) × E d.file d.entry
 
--- a path of the file's entry is written
-abbrev pub WritesPath : Entries → ℕ → ℕ → List ℕ → ℕ → ℕ → List ℕ → Type 0
-WritesPath E names file before at end after = (path : List ℕ) × Stands E names file path × Writes before at path end after
+-- the pen wrote the text after what it had written, into the same memory, and left all else
+pub record Adds (before : Pen) (text : List ℕ) (after : Pen) : Type 0 where
+  pub same : after.out.ghost_name ≡ before.out.ghost_name
+  pub long : length after.out.now ≡ length before.out.now
+  pub writes : Writes before.out.now before.end text after.end after.out.now
 
--- the line of the file's entry is written
-abbrev pub WritesLine : Entries → ℕ → List ℕ → ℕ → ℕ → List ℕ → Type 0
-WritesLine E file before at end after = (text : List ℕ) × LineOf E file text × (length text ≤ 208) × Writes before at text end after
+-- it wrote a path of the file's entry
+abbrev pub AddsPath : Entries → ℕ → ℕ → Pen → Pen → Type 0
+AddsPath E names file before after = (path : List ℕ) × Stands E names file path × Adds before path after
+
+-- it wrote the line of the file's entry
+abbrev pub AddsLine : Entries → ℕ → Pen → Pen → Type 0
+AddsLine E file before after = (text : List ℕ) × LineOf E file text × (length text ≤ 208) × Adds before text after
 
 -- no file is longer than the chunks of one can hold
 abbrev pub Short : Entries → Type 0

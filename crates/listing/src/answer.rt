@@ -5,7 +5,7 @@ ghost use Rattle.listing.specs.Writes.{Writes};
 
 use crate::lines::LISTING_BYTES;
 use crate::list_chip::list;
-use crate::text::{put, put_decimal};
+use crate::pen::Pen;
 use flash::{PAGE_BYTES, ReadFlash};
 
 // Writes the line of a refusal to the front.
@@ -13,9 +13,11 @@ fn put_refusal(out: &mut [u8], number: u8) -> usize
     requires { 12 ≤ length out.old }
     ensures { Writes out.old 0 (refusal_line number) result out.new }
 {
-    let word_end = put(out, 0, b"refused ");
-    let number_end = put_decimal(out, word_end, number as u16);
-    put(out, number_end, b"\n")
+    let mut pen = Pen { out, end: 0 };
+    pen.put(b"refused ");
+    pen.put_decimal(number as u16);
+    pen.put(b"\n");
+    pen.end
 }
 
 /// Writes the listing of the chip to the front of `out`, or the line of its refusal, and answers where that ends.

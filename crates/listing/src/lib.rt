@@ -12,6 +12,7 @@ mod laws;
 mod lines;
 mod list_chip;
 mod paths;
+mod pen;
 mod text;
 
 pub use answer::put_answer;

@@ -9,7 +9,7 @@ use flash::{PAGE_BYTES, ReadFlash};
 use replay::{ReplayFault, scan};
 use work_page::Guard;
 
-// The listing, and nothing that was read stays in the working page.
+// The listing, once the working page has its size; nothing that was read stays in it.
 fn list_page<F: ReadFlash>(
     flash: &F,
     page: &mut [u8; PAGE_BYTES],

@@ -1,37 +1,38 @@
 // Texts, written one after another.
 ghost use Rattle.std.specs.Prelude.{◌+◌, ◌≤◌, ◌∷◌, length, decimal};
 ghost use Rattle.page.specs.Names.{name_text};
-ghost use Rattle.listing.specs.Writes.{Writes};
+ghost use Rattle.listing.specs.Writes.{Adds};
 
+use crate::pen::Pen;
+use itoa::Buffer;
 use page::Name;
 
-// Writes the bytes from `at` on, and answers where they end.
-pub(crate) fn put(out: &mut [u8], at: usize, bytes: &[u8]) -> usize
-    requires { at + length bytes.now ≤ length out.old }
-    ensures { Writes out.old at bytes.now result out.new }
-{
-    let end = at + bytes.len();
-    out[at..end].copy_from_slice(bytes);
-    end
-}
-
-// Writes the number without leading zeros.
-pub(crate) fn put_decimal(out: &mut [u8], at: usize, number: u16) -> usize
-    requires { at + length (decimal number) ≤ length out.old }
-    ensures { Writes out.old at (decimal number) result out.new }
-{
-    if number < 10 {
-        return put(out, at, &[b'0' + number as u8]);
+impl Pen<'_> {
+    // Writes the bytes.
+    pub(crate) fn put(&mut self, bytes: &[u8])
+        requires { self.old.end + length bytes.now ≤ length self.old.out.now }
+        ensures { Adds self.old bytes.now self.new }
+    {
+        let end = self.end + bytes.len();
+        self.out[self.end..end].copy_from_slice(bytes);
+        self.end = end;
     }
-    let end = put_decimal(out, at, number / 10);
-    put(out, end, &[b'0' + (number % 10) as u8])
-}
 
-// Writes the last step of a path.
-pub(crate) fn put_name(out: &mut [u8], at: usize, name: &Name) -> usize
-    requires { at + 25 ≤ length out.old }
-    ensures { Writes out.old at (47 ∷ name_text name.now) result out.new }
-{
-    let end = put(out, at, b"/");
-    put(out, end, name.as_bytes())
+    // Writes the number without leading zeros.
+    pub(crate) fn put_decimal(&mut self, number: u16)
+        requires { self.old.end + length (decimal number) ≤ length self.old.out.now }
+        ensures { Adds self.old (decimal number) self.new }
+    {
+        let mut digits = Buffer::new();
+        self.put(digits.format(number).as_bytes());
+    }
+
+    // Writes the last step of a path.
+    pub(crate) fn put_name(&mut self, name: &Name)
+        requires { self.old.end + 25 ≤ length self.old.out.now }
+        ensures { Adds self.old (47 ∷ name_text name.now) self.new }
+    {
+        self.put(b"/");
+        self.put(name.as_bytes());
+    }
 }

@@ -1,28 +1,15 @@
 -- What is found in a table by an index, and by a key.
-use Rattle.std.proofs.Common.{◌≡◌, ℕ, zero, suc, ◌<◌, ◌≤◌, Bool, true, false, cond, List, [], ◌∷◌, map, length, get_or, take, is_some, Some, None, Option, sym, refl, ap, ◌∙◌, ap₂, inl, inr, arith, length-take}
-use lib.ListN.{length-map}
+use Rattle.std.proofs.Common.{◌≡◌, ℕ, zero, suc, ◌<◌, Bool, true, false, cond, List, [], ◌∷◌, map, length, get_or, is_some, Some, None, Option, sym, refl, ap, ◌∙◌, ap₂, inl, inr, arith}
 use Rattle.std.proofs.lemmas.Bool.{cases_Bool, or_from, or_left, or_right}
+use Rattle.std.specs.Option.{MatchOption, IsSomeAnd}
+use Rattle.object.specs.declared.value.Object.{Object}
 use Rattle.lookup.specs.Found.{Absent, Found}
 use Rattle.object.specs.declared.key.Key.{Key}
 use Rattle.object_store.specs.declared.kept.Kept.{Kept}
-use Rattle.object_store.specs.Objects.{Objects, key_of, keys_of, found}
-use Rattle.object_store.specs.Shelf.{key_at}
+use Rattle.object_store.specs.Objects.{Objects, key_of, found}
 use Rattle.object_store.specs.Tables.{has_key, same_key}
 use Rattle.object_store.proofs.Keys.{same_file, same_part, same_itself}
-
-pub key_there : (xs : Objects) (len i : ℕ) (d : Kept) → i < len → len ≤ length xs → Some (get_or xs i d).key ≡ key_at (keys_of (take len xs)) i
-key_there [] len i d l h = absurd (omega arith)
-key_there (x ∷ xs) zero i d l h = absurd (omega arith)
-key_there (x ∷ xs) (suc len) zero d l h = refl
-key_there (x ∷ xs) (suc len) (suc i) d l h = key_there xs len i d (omega arith) (omega arith)
-
-past_keys : (ks : List Key) (i : ℕ) → length ks ≤ i → None ≡ key_at ks i
-past_keys [] i h = refl
-past_keys (k ∷ ks) zero h = absurd (omega arith)
-past_keys (k ∷ ks) (suc i) h = past_keys ks i (omega arith)
-
-pub key_past : (xs : Objects) (len i : ℕ) → len ≤ i → None ≡ key_at (keys_of (take len xs)) i
-key_past xs len i h = past_keys (keys_of (take len xs)) i (let a = length-map (take len xs) key_of in let b = length-take len xs in omega (arith, a, b))
+use Rattle.object_store.proofs.Nothing.{no_kept}
 
 same_key_is : (j k : Key) → same_key j k ≡ true → j ≡ k
 same_key_is j k t = ap₂ (λ (f p : ℕ). record { file = f; part = p }) (same_file j k t) (same_part j k t)
@@ -42,6 +29,13 @@ pub found_none : (os : Objects) (k : Key) → Found key_of os k None → None �
 found_none [] k f = refl
 found_none (o ∷ os) k f =
     found_none os k (λ n e l. f (suc n) e (omega arith)) ∙ ap (λ (b : Bool). cond b (Some o.object) (found os k)) (sym (other_key o.key k (f 0 o (omega arith))))
+
+-- what is read at the place that is found, if one is
+pub found_through : (os : Objects) (k : Key) (i : Option ℕ) (r : Option Object) (P : ℕ → Object → Type 0) → ((n : ℕ) (v : Object) → P n v → v ≡ (get_or os n no_kept).object)
+    → Found key_of os k i → MatchOption i (r ≡ None) (λ n. IsSomeAnd r (P n)) → r ≡ found os k
+found_through os k None r P reads f h = h ∙ found_none os k f
+found_through os k (Some n) (Some v) P reads f h = ap Some (reads n v h) ∙ found_at os k n no_kept f
+found_through os k (Some n) None P reads f h = absurd h
 
 module _ {R : Type 0} (key : R → Key) (k : Key) where
   there : (xs : List R) (i : ℕ) → i < length xs → ((d : R) → key (get_or xs i d) ≡ k) → true ≡ has_key (map key xs) k

@@ -2,8 +2,9 @@
 use Rattle.std.proofs.Common.{◌≡◌, ℕ, ◌+◌, ◌*◌, ◌<◌, ◌≤◌, Bool, true, false, cond, ◌||◌, eqb, List, [], ◌∷◌, length, get_or, drop, sym, refl, ap, ◌∙◌, ap₂, inl, inr, arith}
 use Rattle.std.proofs.lemmas.List.{at_drop_more}
 use Rattle.std.proofs.lemmas.Bool.{eqb-true, eqb-false, ne_eqb, cases_lt}
+use Rattle.object.specs.Rank.{key_rank}
 use Rattle.object.specs.declared.key.Key.{Key}
-use Rattle.object_store.specs.Tables.{rank, has_file, RisingFrom}
+use Rattle.object_store.specs.Tables.{has_file, RisingFrom}
 use Rattle.object_store.specs.declared.kept.Kept.{Kept}
 use Rattle.object_store.specs.Lent.{gap}
 use Rattle.object_store.specs.Objects.{Objects, keys_of}
@@ -29,17 +30,17 @@ gap_low n (k ∷ ks) = by (eqb k.file n) (gap_low (n + 1) ks) (gap_low n ks)
 gap_stays : (n r : ℕ) (ks : List Key) → RisingFrom r ks → n * 256 + 256 ≤ r → gap n ks ≡ n
 gap_stays n r [] h l = refl
 gap_stays n r (k ∷ ks) h l =
-    let le : r ≤ rank k = h.0 in
+    let le : r ≤ key_rank k = h.0 in
     let p : k.part ≤ 32 = h.1 in
-    ap (λ (b : Bool). cond b (gap (n + 1) ks) (gap n ks)) (ne_eqb k.file n (λ e. omega (arith, e))) ∙ gap_stays n (rank k + 1) ks h.2 (omega arith)
+    ap (λ (b : Bool). cond b (gap (n + 1) ks) (gap n ks)) (ne_eqb k.file n (λ e. omega (arith, e))) ∙ gap_stays n (key_rank k + 1) ks h.2 (omega arith)
 
 -- files from the one before n on
 pub gap_free : (n r : ℕ) (ks : List Key) → 1 ≤ n → RisingFrom r ks → n * 256 ≤ r + 256 → has_file ks (gap n ks) ≡ false
 gap_free n r [] one h l = refl
 gap_free n r (k ∷ ks) one h l =
-    by (eqb k.file n) refl (λ m. gap_free (n + 1) (rank k + 1) ks (omega arith) h.2 m) (gap_free n (rank k + 1) ks one h.2 (let le : r ≤ rank k = h.0 in omega arith))
+    by (eqb k.file n) refl (λ m. gap_free (n + 1) (key_rank k + 1) ks (omega arith) h.2 m) (gap_free n (key_rank k + 1) ks one h.2 (let le : r ≤ key_rank k = h.0 in omega arith))
   where
-    by : (b : Bool) → eqb k.file n ≡ b → ((n + 1) * 256 ≤ (rank k + 1) + 256 → has_file ks (gap (n + 1) ks) ≡ false) → has_file ks (gap n ks) ≡ false
+    by : (b : Bool) → eqb k.file n ≡ b → ((n + 1) * 256 ≤ (key_rank k + 1) + 256 → has_file ks (gap (n + 1) ks) ≡ false) → has_file ks (gap n ks) ≡ false
         → (eqb k.file (cond b (gap (n + 1) ks) (gap n ks)) || has_file ks (cond b (gap (n + 1) ks) (gap n ks))) ≡ false
     by true e next same =
         let f = eqb-true k.file n e in
@@ -50,7 +51,7 @@ gap_free n r (k ∷ ks) one h l =
         let up = gap_rises n ks in
         let other : k.file ≡ gap n ks → ⊥ = elim (cases_lt k.file n) [
           | inl low ↦ λ q. omega (arith, up)
-          | inr high ↦ λ q. (let s = gap_stays n (rank k + 1) ks h.2 (above k.file k.part n high ne) in ne (q ∙ s))
+          | inr high ↦ λ q. (let s = gap_stays n (key_rank k + 1) ks h.2 (above k.file k.part n high ne) in ne (q ∙ s))
         ] in
         ap₂ (λ (a b : Bool). a || b) (ne_eqb k.file (gap n ks) other) same
       where

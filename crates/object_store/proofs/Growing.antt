@@ -1,5 +1,7 @@
 -- How many keys a batch leaves: those that stay, and the new ones that it brings.
 use Rattle.std.proofs.Common.{◌≡◌, ℕ, ◌+◌, ◌≤◌, Bool, true, false, cond, not, ◌&&◌, ◌||◌, List, [], ◌∷◌, ◌++◌, length, filter, sym, refl, ap, ◌∙◌, arith}
+use Rattle.std.proofs.Math.Bool.{or-false, or_assoc}
+use Rattle.std.proofs.lemmas.List.Folds.{list_any-append}
 use Rattle.object.specs.declared.key.Key.{Key}
 use Rattle.object.specs.declared.value.Object.{Object}
 use Rattle.object_store.specs.declared.change.Change.{Change}
@@ -13,18 +15,9 @@ use Rattle.object_store.proofs.Keys.{same_file, rising_put, grown}
 use Rattle.object_store.proofs.Having.{has_put, has_kept}
 use Rattle.object_store.proofs.Settling.{rising_settle, rising_spared, removals_first}
 
-or_past : (a b c : Bool) → ((a || b) || c) ≡ (a || (b || c))
-or_past true b c = refl
-or_past false b c = refl
-
-or_none : (a : Bool) → a ≡ (a || false)
-or_none true = refl
-or_none false = refl
-
 -- a change at the end
 pub sets_last : (cs : List Change) (c : Change) (k : Key) → sets_key (cs ++ c ∷ []) k ≡ (sets_key cs k || sets c k)
-sets_last [] c k = sym (or_none (sets c k))
-sets_last (d ∷ cs) c k = ap (λ (b : Bool). sets d k || b) (sets_last cs c k) ∙ sym (or_past (sets d k) (sets_key cs k) (sets c k))
+sets_last cs c k = list_any-append (λ d. sets d k) cs (c ∷ []) ∙ ap (λ (b : Bool). sets_key cs k || b) (or-false (sets c k))
 
 pub length_spared : (cs : List Change) (os : Objects) → length (spared cs os) ≡ staying cs (keys_of os)
 length_spared cs [] = refl
@@ -41,13 +34,13 @@ SoFar ks all earlier os = (k : Key) → removes all k.file ≡ false → has_key
 
 so_far_put : (ks : List Key) (all earlier : List Change) (os : Objects) (k : Key) (v : Object) → SoFar ks all earlier os → SoFar ks all (earlier ++ Set k v ∷ []) (put os k v)
 so_far_put ks all earlier os k v have j live =
-    has_put key_of os (record { key = k; object = v }) j ∙ ap (λ (b : Bool). b || same_key k j) (have j live) ∙ or_past (has_key ks j) (sets_key earlier j) (same_key k j)
+    has_put key_of os (record { key = k; object = v }) j ∙ ap (λ (b : Bool). b || same_key k j) (have j live) ∙ or_assoc (has_key ks j) (sets_key earlier j) (same_key k j)
     ∙ ap (λ (b : Bool). has_key ks j || b) (sym (sets_last earlier (Set k v) j))
 
 so_far_other : (ks : List Key) (all earlier : List Change) (os : Objects) (c : Change) → SoFar ks all earlier os → ((k : Key) → removes all k.file ≡ false → sets c k ≡ false)
     → SoFar ks all (earlier ++ c ∷ []) os
 so_far_other ks all earlier os c have none j live =
-    have j live ∙ ap (λ (b : Bool). has_key ks j || b) (or_none (sets_key earlier j) ∙ ap (λ (b : Bool). sets_key earlier j || b) (sym (none j live)) ∙ sym (sets_last earlier c j))
+    have j live ∙ ap (λ (b : Bool). has_key ks j || b) (sym (or-false (sets_key earlier j)) ∙ ap (λ (b : Bool). sets_key earlier j || b) (sym (none j live)) ∙ sym (sets_last earlier c j))
 
 -- the key of a file that is removed is none that stays
 gone_other : (all : List Change) (k : Key) → removes all k.file ≡ true → (j : Key) → removes all j.file ≡ false → same_key k j ≡ false
@@ -85,7 +78,7 @@ pub count_after : (cs : List Change) (os : Objects) → Rising (keys_of os) → 
     → length (after_batch os cs) ≡ staying cs (keys_of os) + brought (keys_of os) cs [] cs
 count_after cs os h p t =
     ap length (removals_first cs os h p t)
-    ∙ count_settled (keys_of os) cs [] cs (spared cs os) (rising_spared cs os h) p (λ k live. has_kept key_of (λ (f : ℕ). not (removes cs f)) os k ∙ ap (λ (b : Bool). not b && has_key (keys_of os) k) live ∙ or_none (has_key (keys_of os) k))
+    ∙ count_settled (keys_of os) cs [] cs (spared cs os) (rising_spared cs os h) p (λ k live. has_kept key_of (λ (f : ℕ). not (removes cs f)) os k ∙ ap (λ (b : Bool). not b && has_key (keys_of os) k) live ∙ sym (or-false (has_key (keys_of os) k)))
     ∙ ap (λ n. n + brought (keys_of os) cs [] cs) (length_spared cs os)
 
 -- a map only grows on the way

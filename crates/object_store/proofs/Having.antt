@@ -1,53 +1,38 @@
 -- Which keys a table has once a record is put in, or records are left out.
 use Rattle.std.proofs.Common.{◌≡◌, ℕ, ◌+◌, Bool, true, false, cond, ◌&&◌, ◌||◌, ltb, List, [], ◌∷◌, map, filter, sym, refl, ap, ◌∙◌, ap₂, arith}
-use Rattle.std.proofs.lemmas.Bool.{ltb-false}
+use Rattle.std.proofs.Math.Bool.{or_assoc, or_comm}
+use Rattle.std.proofs.lemmas.Bool.{true≢false, ltb-false, and_right}
+use Rattle.object.specs.Rank.{key_rank}
 use Rattle.object.specs.declared.key.Key.{Key}
-use Rattle.object_store.specs.Tables.{rank, same_key, has_key, put_in, RisingFrom}
+use Rattle.object_store.specs.Tables.{same_key, has_key, put_in, RisingFrom}
 use Rattle.object_store.proofs.Keys.{same_file, same_with, put_front, rising_kept}
-
-or_turn : (a b : Bool) → (a || b) ≡ (b || a)
-or_turn true true = refl
-or_turn true false = refl
-or_turn false true = refl
-or_turn false false = refl
-
-or_past : (a b c : Bool) → (a || (b || c)) ≡ ((a || b) || c)
-or_past true b c = refl
-or_past false b c = refl
-
-or_first : (a b c : Bool) → (a || (b || c)) ≡ ((b || c) || a)
-or_first a b c = or_turn a (b || c)
 
 or_twice : (a b : Bool) → (a || b) ≡ ((a || b) || a)
 or_twice true b = refl
 or_twice false true = refl
 or_twice false false = refl
 
-and_none : (a : Bool) → false ≡ (a && false)
-and_none true = refl
-and_none false = refl
-
 module _ {R : Type 0} (key : R → Key) where
   abbrev has : List R → Key → Bool
   has ys k = has_key (map key ys) k
 
   pub has_put : (ys : List R) (x : R) (k : Key) → has_key (map key (put_in key ys x)) k ≡ (has_key (map key ys) k || same_key (key x) k)
-  has_put [] x k = or_turn (same_key (key x) k) false
-  has_put (y ∷ ys) x k = by (ltb (rank (key y)) (rank (key x))) (same_key (key y) (key x)) refl (has_put ys x k)
+  has_put [] x k = or_comm (same_key (key x) k) false
+  has_put (y ∷ ys) x k = by (ltb (key_rank (key y)) (key_rank (key x))) (same_key (key y) (key x)) refl (has_put ys x k)
     where
       by : (b s : Bool) → same_key (key y) (key x) ≡ s → has (put_in key ys x) k ≡ (has ys k || same_key (key x) k)
           → has (cond b (y ∷ put_in key ys x) (cond s (x ∷ ys) (x ∷ (y ∷ ys)))) k ≡ ((same_key (key y) k || has ys k) || same_key (key x) k)
-      by true s e more = ap (λ (b : Bool). same_key (key y) k || b) more ∙ or_past (same_key (key y) k) (has ys k) (same_key (key x) k)
+      by true s e more = ap (λ (b : Bool). same_key (key y) k || b) more ∙ sym (or_assoc (same_key (key y) k) (has ys k) (same_key (key x) k))
       by false true e more =
           or_twice (same_key (key x) k) (has ys k) ∙ ap (λ (b : Bool). (b || has ys k) || same_key (key x) k) (sym (same_with (key y) (key x) k e))
-      by false false e more = or_first (same_key (key x) k) (same_key (key y) k) (has ys k)
+      by false false e more = or_comm (same_key (key x) k) (same_key (key y) k || has ys k)
 
   module _ (q : ℕ → Bool) where
     abbrev left : List R → List R
     left ys = filter (λ (r : R). q (key r).file) ys
 
     pub has_kept : (ys : List R) (k : Key) → has_key (map key (filter (λ (r : R). q (key r).file) ys)) k ≡ (q k.file && has_key (map key ys) k)
-    has_kept [] k = and_none (q k.file)
+    has_kept [] k = sym (and_right (q k.file) false refl)
     has_kept (y ∷ ys) k = by (q (key y).file) (same_key (key y) k) (q k.file) refl (λ e. ap q (same_file (key y) k e)) (has_kept ys k)
       where
         by : (b s t : Bool) → same_key (key y) k ≡ s → (same_key (key y) k ≡ true → b ≡ t) → has (left ys) k ≡ (t && has ys k)
@@ -62,22 +47,19 @@ module _ {R : Type 0} (key : R → Key) where
         → filter (λ (y : R). q (key y).file) (put_in key ys x) ≡ cond (q (key x).file) (put_in key (filter (λ (y : R). q (key y).file) ys) x) (filter (λ (y : R). q (key y).file) ys)
     kept_put r [] x h = refl
     kept_put r (y ∷ ys) x h =
-        by (ltb (rank (key y)) (rank (key x))) (same_key (key y) (key x)) (q (key y).file) (q (key x).file) refl refl refl refl (λ e. ap q (same_file (key y) (key x) e)) (kept_put (rank (key y) + 1) ys x h.2)
+        by (ltb (key_rank (key y)) (key_rank (key x))) (same_key (key y) (key x)) (q (key y).file) (q (key x).file) refl refl refl refl (λ e. ap q (same_file (key y) (key x) e)) (kept_put (key_rank (key y) + 1) ys x h.2)
       where
         -- a record at the front of what is left
-        placed : (b s : Bool) → ltb (rank (key y)) (rank (key x)) ≡ b → same_key (key y) (key x) ≡ s
+        placed : (b s : Bool) → ltb (key_rank (key y)) (key_rank (key x)) ≡ b → same_key (key y) (key x) ≡ s
             → cond b (y ∷ put_in key (left ys) x) (cond s (x ∷ left ys) (x ∷ (y ∷ left ys))) ≡ put_in key (y ∷ left ys) x
         placed b s t e = ap₂ (λ (b s : Bool). cond b (y ∷ put_in key (left ys) x) (cond s (x ∷ left ys) (x ∷ (y ∷ left ys)))) (sym t) (sym e)
 
-        front : ltb (rank (key y)) (rank (key x)) ≡ false → x ∷ left ys ≡ put_in key (left ys) x
+        front : ltb (key_rank (key y)) (key_rank (key x)) ≡ false → x ∷ left ys ≡ put_in key (left ys) x
         front t =
-            let le = ltb-false (rank (key y)) (rank (key x)) t in
-            sym (put_front key (rank (key y) + 1) (left ys) x (rising_kept key (λ (r : R). q (key r).file) (rank (key y) + 1) ys h.2) (omega (arith, le)))
+            let le = ltb-false (key_rank (key y)) (key_rank (key x)) t in
+            sym (put_front key (key_rank (key y) + 1) (left ys) x (rising_kept key (λ (r : R). q (key r).file) (key_rank (key y) + 1) ys h.2) (omega (arith, le)))
 
-        opposed : {A : Type 0} → true ≡ false → A
-        opposed z = let n : ◌≡◌ {A = ℕ} 1 0 = ap (λ (b : Bool). cond b 1 0) z in absurd (omega arith)
-
-        by : (b s u v : Bool) → ltb (rank (key y)) (rank (key x)) ≡ b → same_key (key y) (key x) ≡ s → q (key y).file ≡ u → q (key x).file ≡ v → (same_key (key y) (key x) ≡ true → q (key y).file ≡ q (key x).file)
+        by : (b s u v : Bool) → ltb (key_rank (key y)) (key_rank (key x)) ≡ b → same_key (key y) (key x) ≡ s → q (key y).file ≡ u → q (key x).file ≡ v → (same_key (key y) (key x) ≡ true → q (key y).file ≡ q (key x).file)
             → left (put_in key ys x) ≡ cond v (put_in key (left ys) x) (left ys)
             → left (cond b (y ∷ put_in key ys x) (cond s (x ∷ ys) (x ∷ (y ∷ ys)))) ≡ cond v (put_in key (cond u (y ∷ left ys) (left ys)) x) (cond u (y ∷ left ys) (left ys))
         by true s true true t e w z f ih = ap (λ (b : Bool). cond b (y ∷ left (put_in key ys x)) (left (put_in key ys x))) w ∙ ap (λ (zs : List R). y ∷ zs) ih ∙ placed true s t e
@@ -85,8 +67,8 @@ module _ {R : Type 0} (key : R → Key) where
         by true s false v t e w z f ih = ap (λ (b : Bool). cond b (y ∷ left (put_in key ys x)) (left (put_in key ys x))) w ∙ ih
         by false true true true t e w z f ih = ap (λ (b : Bool). cond b (x ∷ left ys) (left ys)) z ∙ placed false true t e
         by false true false false t e w z f ih = ap (λ (b : Bool). cond b (x ∷ left ys) (left ys)) z
-        by false true true false t e w z f ih = opposed (sym w ∙ f e ∙ z)
-        by false true false true t e w z f ih = opposed (sym (sym w ∙ f e ∙ z))
+        by false true true false t e w z f ih = absurd (true≢false (sym w ∙ f e ∙ z))
+        by false true false true t e w z f ih = absurd (true≢false (sym (sym w ∙ f e ∙ z)))
         by false false true true t e w z f ih =
             ap₂ (λ (a b : Bool). cond a (x ∷ cond b (y ∷ left ys) (left ys)) (cond b (y ∷ left ys) (left ys))) z w ∙ placed false false t e
         by false false true false t e w z f ih = ap₂ (λ (a b : Bool). cond a (x ∷ cond b (y ∷ left ys) (left ys)) (cond b (y ∷ left ys) (left ys))) z w

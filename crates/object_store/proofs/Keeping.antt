@@ -1,6 +1,7 @@
 -- What a batch keeps of a map: keys rise, and objects fit.
 use Rattle.std.proofs.Common.{◌≡◌, ℕ, ◌≤◌, min, Bool, true, false, cond, not, ◌&&◌, eqb, ltb, leb, List, [], ◌∷◌, length, filter, sym, refl, subst, arith}
 use Rattle.std.proofs.lemmas.Bool.{and_parts, and_from}
+use Rattle.object.specs.Rank.{key_rank}
 use Rattle.object.specs.declared.key.Key.{Key}
 use Rattle.object_store.specs.declared.change.Change.{Change}
 use Rattle.object_store.specs.declared.change.Change.TheVariants.{Set, Remove}
@@ -11,7 +12,7 @@ use Rattle.object_store.specs.Lent.{shelf_of}
 use Rattle.object_store.specs.Objects.{Objects, key_of, keys_of, put, after_batch}
 use Rattle.object_store.specs.Settled.{Placeable, spared}
 use Rattle.object_store.specs.Shelf.{Sound, all_fit}
-use Rattle.object_store.specs.Tables.{rank, same_key, put_in, Rising}
+use Rattle.object_store.specs.Tables.{same_key, put_in, Rising}
 use Rattle.object_store.proofs.Gaps.{gap_rises, gap_free}
 use Rattle.object_store.proofs.Settling.{rising_spared, rising_settled, removals_first}
 
@@ -33,7 +34,7 @@ fit_put : (os : Objects) (x : Kept) → object_fits x.key.part x.object ≡ true
 fit_put [] x new t = and_from (object_fits x.key.part x.object) true new refl
 fit_put (o ∷ os) x new t =
     let parts = and_parts (object_fits o.key.part o.object) (all_fit os) t in
-    by (ltb (rank o.key) (rank x.key)) (same_key o.key x.key) parts.0 parts.1 (fit_put os x new parts.1)
+    by (ltb (key_rank o.key) (key_rank x.key)) (same_key o.key x.key) parts.0 parts.1 (fit_put os x new parts.1)
   where
     by : (b s : Bool) → object_fits o.key.part o.object ≡ true → all_fit os ≡ true → all_fit (put_in key_of os x) ≡ true
         → all_fit (cond b (o ∷ put_in key_of os x) (cond s (x ∷ os) (x ∷ (o ∷ os)))) ≡ true

@@ -1,31 +1,27 @@
 -- A batch on a table in lent memory: what was judged, and what it leaves.
-use Rattle.std.proofs.Common.{◌≡◌, ℕ, ◌-◌, ◌≤◌, min, Bool, true, false, cond, ltb, ◌⊎◌, List, map, length, take, Ok, Err, Result, sym, refl, ap, ◌∙◌, subst, ap₂, inl, inr, arith}
+use Rattle.std.proofs.Common.{◌≡◌, ℕ, ◌≤◌, min, false, List, map, length, take, Ok, Result, sym, refl, ap, ◌∙◌, subst, ap₂, arith}
 use lib.ListN.{length-map}
-use Rattle.std.proofs.lemmas.Bool.{eq-eqb, ne_eqb}
 use Rattle.object_store.specs.declared.change.Change.{Change}
 use Rattle.object_store.specs.declared.fault.ObjectFault.{ObjectFault}
-use Rattle.object_store.specs.declared.fault.ObjectFault.TheVariants.{WorkPage, Unfit, Full, Spent}
 use Rattle.object_store.specs.declared.kept.Kept.{Kept}
-use Rattle.object_store.specs.Fit.{Judges, fit, verdict}
-use Rattle.object_store.specs.Lent.{gap, shelf_of, table_shelf, TableWhole, table_verdict}
-use Rattle.object_store.specs.Objects.{key_of, keys_of, after_batch}
-use Rattle.object_store.specs.Says.{Batches, answer}
+use Rattle.object_store.specs.Fit.{Judges, verdict}
+use Rattle.object_store.specs.Lent.{gap, shelf_of, TableWhole, table_verdict}
+use Rattle.object_store.specs.Objects.{Objects, key_of, keys_of, after_batch}
 use Rattle.object_store.specs.Shelf.{Sound}
 use Rattle.object_store.proofs.Keeping.{rising_after, fit_after, sound_of}
 use Rattle.object_store.proofs.Verdicts.{Passing, passing}
 
 module _ (places : List Kept) (len : ℕ) (cs : List Change) where
   -- the part of the table that is lent is the map
-  pub judged : TableWhole places len → (limit unused : ℕ) → limit ≡ min (length places) 208 → unused ≡ gap 1 (keys_of (take (len - 0) places)) → (r : Result (Unit {0}) ObjectFault)
-      → Judges (map key_of (take (len - 0) places)) limit unused false cs r → table_verdict places len cs ≡ r
-  judged whole limit unused l u r says =
-      let e : len - 0 ≡ len = omega arith in
+  pub judged : TableWhole places len → (os : Objects) → os ≡ take len places → (limit unused : ℕ) → limit ≡ min (length places) 208 → unused ≡ gap 1 (keys_of os) → (r : Result (Unit {0}) ObjectFault)
+      → Judges (map key_of os) limit unused false cs r → r ≡ table_verdict places len cs
+  judged whole os is limit unused l u r says =
       let good = whole.sound in
       let few = good.few refl in
       let long = length-map (take len places) key_of in
-      let verdicts : Judges (keys_of (take len places)) limit unused false cs r = subst (λ n. Judges (keys_of (take n places)) limit unused false cs r) e says in
-      ap₂ (λ (a b : ℕ). verdict (take len places) a b false cs) (sym l) (ap (λ n. gap 1 (keys_of (take n places))) (sym e) ∙ sym u)
-      ∙ sym (verdicts (omega (arith, few, long)) good.rising good.entries (take len places) refl)
+      let verdicts : Judges (keys_of (take len places)) limit unused false cs r = subst (λ (m : Objects). Judges (keys_of m) limit unused false cs r) is says in
+      verdicts (omega (arith, few, long)) good.rising good.entries (take len places) refl
+      ∙ ap₂ (λ (a b : ℕ). verdict (take len places) a b false cs) l (u ∙ ap (λ (m : Objects). gap 1 (keys_of m)) is)
 
   module _ (whole : TableWhole places len) (ok : table_verdict places len cs ≡ Ok tt) where
     pub passed : Passing (take len places) (min (length places) 208) (gap 1 (keys_of (take len places))) cs
@@ -44,33 +40,3 @@ module _ (places : List Kept) (len : ℕ) (cs : List Change) where
               (sound_of (after_batch (take len places) cs) (length places) (rising_after cs (take len places) good.rising fits.placed fits.ordered)
               (fit_after (keys_of (take len places)) (gap 1 (keys_of (take len places))) cs (take len places) fits.each good.fitted) fits.entries passed.few);
         }
-
--- the answer to a batch with a working page of n bytes
-module _ (n : ℕ) (places : List Kept) (len : ℕ) (cs : List Change) where
-  pub page_refused : (n ≡ 256 → ⊥) → answer n (table_shelf places len) cs ≡ Err WorkPage
-  page_refused ne = ap (λ (b : Bool). cond b (table_verdict places len cs) (Err WorkPage)) (ne_eqb n 256 ne)
-
-  pub answered : n ≡ 256 → answer n (table_shelf places len) cs ≡ table_verdict places len cs
-  answered e = ap (λ (b : Bool). cond b (table_verdict places len cs) (Err WorkPage)) (eq-eqb n 256 e)
-
-  -- a verdict names one of three grounds
-  grounds : (a b d : Bool) (e : ObjectFault) → ◌≡◌ {A = Result (Unit {0}) ObjectFault} (cond a (cond b (Err Full) (cond d (Err Spent) (Ok tt))) (Err Unfit)) (Err e)
-      → (e ≡ Unfit) ⊎ ((e ≡ Full) ⊎ (e ≡ Spent))
-  grounds true true d e q = inr (inl (cc))
-  grounds true false true e q = inr (inr (cc))
-  grounds true false false e q = absurd (let z : ◌≡◌ {A = ℕ} 0 1 = cc in omega arith)
-  grounds false b d e q = inl (cc)
-
-  pub refused : (e : ObjectFault) → n ≡ 256 → table_verdict places len cs ≡ Err e → Batches n (table_shelf places len) cs (Err e) (table_shelf places len)
-  refused e p v =
-      elim (grounds (fit (take len places) (gap 1 (keys_of (take len places))) cs) (ltb (min (length places) 208) (length (after_batch (take len places) cs))) false e v) [
-        | inl q ↦ subst (λ (x : ObjectFault). Batches n (table_shelf places len) cs (Err x) (table_shelf places len)) (sym q) (answered p ∙ v ∙ ap Err q, refl)
-        | inr r ↦ elim r [
-          | inl q ↦ subst (λ (x : ObjectFault). Batches n (table_shelf places len) cs (Err x) (table_shelf places len)) (sym q) (answered p ∙ v ∙ ap Err q, refl)
-          | inr q ↦ subst (λ (x : ObjectFault). Batches n (table_shelf places len) cs (Err x) (table_shelf places len)) (sym q) (answered p ∙ v ∙ ap Err q, refl)
-        ]
-      ]
-
-  pub done : n ≡ 256 → table_verdict places len cs ≡ Ok tt → (m : ℕ) (after : List Kept) → length after ≡ length places → take m after ≡ after_batch (take len places) cs
-      → Batches n (table_shelf places len) cs (Ok tt) (table_shelf after m)
-  done p v m after long is = (answered p ∙ v, record { objects = is; mapped = refl; on = refl; limit = ap (λ k. min k 208) long; sized = refl; steady = refl })

@@ -1,5 +1,4 @@
 pub mod Nothing
-pub mod Walks
 pub mod Counting
 pub mod Keys
 pub mod Having

@@ -31,9 +31,6 @@ module _ (cs : List Change) (first : List Kept) (len : ℕ) (rising : Rising (ke
   Way i held now =
       (length now ≡ length table) × (take held now ≡ settled cs (take n table) (take i cs)) × (held ≡ length (settled cs (take n table) (take i cs)))
 
-  pub way_within : (i held : ℕ) (now : List Kept) → Way i held now → held ≤ length now
-  way_within i held now way = let r = roomy i in omega (arith, r, way.0, way.2)
-
   pub way_on : (i held : ℕ) (now : List Kept) (d : Change) → i < length cs → Way i held now → (m : ℕ) (next : List Kept) → HoldsNow now (settle cs (take held now) (get_or cs i d)) m next → Way (i + 1) m next
   way_on i held now d h way m next step =
       let is = ap (λ (os : Objects). settle cs os (get_or cs i d)) way.1 ∙ sym (settled_more cs (take n table) cs i d h) in

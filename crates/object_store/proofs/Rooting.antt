@@ -1,6 +1,7 @@
 -- No chunk is left without an entry exactly when every key that the batch sets stands.
-use Rattle.std.proofs.Common.{◌≡◌, ℕ, Bool, true, false, cond, not, ◌&&◌, ◌||◌, eqb, List, [], ◌∷◌, sym, refl, ap, ◌∙◌, ap₂, inl, inr, arith}
-use Rattle.std.proofs.lemmas.Bool.{and_parts, and_from, or_parts, or_cases, or_left, or_right, not-true, eqb-true}
+use Rattle.std.proofs.Common.{◌≡◌, ℕ, Bool, true, false, not, ◌&&◌, ◌||◌, eqb, List, [], ◌∷◌, sym, refl, ap, ◌∙◌, ap₂, inl, inr}
+use Rattle.std.proofs.Math.Bool.{or-false, or_assoc}
+use Rattle.std.proofs.lemmas.Bool.{true≢false, false≢true, and_parts, and_from, or_parts, or_cases, or_left, or_right, not-true, eqb-true}
 use Rattle.object.specs.declared.key.Key.{Key}
 use Rattle.object_store.specs.declared.change.Change.{Change}
 use Rattle.object_store.specs.declared.change.Change.TheVariants.{Set, Remove}
@@ -23,18 +24,10 @@ unset_key (Set j v ∷ cs) k n =
 -- the keys after a batch: those of before and those it sets, but for the files that it removes
 pub has_after : (cs : List Change) (os : Objects) (k : Key) → in_order cs ≡ true
     → has_key (keys_of (after_batch os cs)) k ≡ (not (removes cs k.file) && (has_key (keys_of os) k || sets_key cs k))
-has_after [] os k t = none (has_key (keys_of os) k)
-  where
-    none : (b : Bool) → b ≡ (b || false)
-    none true = refl
-    none false = refl
+has_after [] os k t = sym (or-false (has_key (keys_of os) k))
 has_after (Set j v ∷ cs) os k t =
     has_after cs (put os j v) k t ∙ ap (λ (b : Bool). not (removes cs k.file) && (b || sets_key cs k)) (has_put key_of os (record { key = j; object = v }) k)
-    ∙ ap (λ (b : Bool). not (removes cs k.file) && b) (past (has_key (keys_of os) k) (same_key j k) (sets_key cs k))
-  where
-    past : (a b c : Bool) → ((a || b) || c) ≡ (a || (b || c))
-    past true b c = refl
-    past false b c = refl
+    ∙ ap (λ (b : Bool). not (removes cs k.file) && b) (or_assoc (has_key (keys_of os) k) (same_key j k) (sets_key cs k))
 has_after (Remove f ∷ cs) os k t =
     let parts = and_parts (not (sets_file cs f)) (in_order cs) t in
     has_after cs (without os f) k parts.1
@@ -51,7 +44,7 @@ entry_alike : (ks : List Key) (j k : Key) → same_key j k ≡ true → has_key 
 entry_alike ks j k e = ap (λ (f : ℕ). has_key ks (record { file = f; part = 0 })) (same_file j k e)
 
 entered_gives : (all ks : List Key) → entered all ks ≡ true → (k : Key) → has_key ks k ≡ true → has_key all (entry_of k) ≡ true
-entered_gives all [] t k h = absurd (let n : ◌≡◌ {A = ℕ} 0 1 = ap (λ (b : Bool). cond b 1 0) h in omega arith)
+entered_gives all [] t k h = absurd (false≢true h)
 entered_gives all (j ∷ js) t k h =
     let parts = and_parts (has_key all (entry_of j)) (entered all js) t in
     elim (or_cases (same_key j k) (has_key js k) h) [ inl e ↦ sym (entry_alike all j k e) ∙ parts.0 | inr m ↦ entered_gives all js parts.1 k m ]
@@ -70,7 +63,7 @@ stands_alike : (ks : List Key) (all : List Change) (j k : Key) → same_key j k 
 stands_alike ks all j k e = ap (λ (f : ℕ). removes all f || has_key ks (record { file = f; part = 0 }) || sets_key all (record { file = f; part = 0 })) (same_file j k e)
 
 stand_gives : (ks : List Key) (all cs : List Change) → all_stand ks all cs ≡ true → (k : Key) → sets_key cs k ≡ true → stands_key ks all k ≡ true
-stand_gives ks all [] t k h = absurd (let n : ◌≡◌ {A = ℕ} 0 1 = ap (λ (b : Bool). cond b 1 0) h in omega arith)
+stand_gives ks all [] t k h = absurd (false≢true h)
 stand_gives ks all (Remove f ∷ cs) t k h = stand_gives ks all cs t k h
 stand_gives ks all (Set j v ∷ cs) t k h =
     let parts = and_parts (stands ks all (Set j v)) (all_stand ks all cs) t in
@@ -88,11 +81,8 @@ alike true b f g = sym (f refl)
 alike false true f g = g refl
 alike false false f g = refl
 
-clash : {A : Type 0} → true ≡ false → A
-clash z = let n : ◌≡◌ {A = ℕ} 1 0 = ap (λ (b : Bool). cond b 1 0) z in absurd (omega arith)
-
 past_first : (r h s : Bool) → r ≡ false → (r || h || s) ≡ true → (h || s) ≡ true
-past_first true h s f t = clash f
+past_first true h s f t = absurd (true≢false f)
 past_first false h s f t = t
 
 -- of a map whose chunks all have entries

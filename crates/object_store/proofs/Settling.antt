@@ -1,6 +1,7 @@
 -- Removals first gives the same map, and the keys there at each moment.
 use Rattle.std.proofs.Common.{◌≡◌, ℕ, ◌≤◌, Bool, true, false, cond, not, ◌||◌, eqb, leb, List, [], ◌∷◌, sym, refl, ap, ◌∙◌, arith}
 use Rattle.std.proofs.lemmas.Bool.{and_parts, or_parts, not-true, eqb-true, eqb-false, ne_eqb, leb-true}
+use Rattle.object.specs.Rank.{key_rank}
 use Rattle.object.specs.declared.key.Key.{Key}
 use Rattle.object.specs.declared.value.Object.{Object}
 use Rattle.object.specs.declared.value.Object.TheVariants as object
@@ -8,7 +9,7 @@ use Rattle.page.specs.Fits.{entry_fits}
 use Rattle.object_store.specs.declared.change.Change.{Change}
 use Rattle.object_store.specs.declared.change.Change.TheVariants.{Set, Remove}
 use Rattle.object_store.specs.declared.kept.Kept.{Kept}
-use Rattle.object_store.specs.Tables.{rank, Rising}
+use Rattle.object_store.specs.Tables.{Rising}
 use Rattle.object_store.specs.Changes.{object_fits, change_fits, sets_file, removes, in_order}
 use Rattle.object_store.specs.Counts.{stays}
 use Rattle.object_store.specs.Objects.{Objects, key_of, keys_of, put, without, after_batch}
@@ -20,13 +21,13 @@ object_part : (part : ℕ) (v : Object) → object_fits part v ≡ true → part
 object_part part (object.Entry e) t = let z : part ≡ 0 = eqb-true part 0 (and_parts (eqb part 0) (entry_fits e) t).0 in omega arith
 object_part part (object.Chunk bytes) t = leb-true part 32 (and_parts (leb 1 part) (leb part 32) t).1
 
-pub fits_placeable : (k : Key) (v : Object) → change_fits (Set k v) ≡ true → (256 ≤ rank k) × (k.part ≤ 32)
+pub fits_placeable : (k : Key) (v : Object) → change_fits (Set k v) ≡ true → (256 ≤ key_rank k) × (k.part ≤ 32)
 fits_placeable k v t =
     let parts = and_parts (leb 1 k.file) (object_fits k.part v) t in
     let file = leb-true 1 k.file parts.0 in
     (omega (arith, file), object_part k.part v parts.1)
 
-pub rising_settle : (all : List Change) (os : Objects) (k : Key) (v : Object) → Rising (keys_of os) → 256 ≤ rank k → k.part ≤ 32 → Rising (keys_of (settle all os (Set k v)))
+pub rising_settle : (all : List Change) (os : Objects) (k : Key) (v : Object) → Rising (keys_of os) → 256 ≤ key_rank k → k.part ≤ 32 → Rising (keys_of (settle all os (Set k v)))
 rising_settle all os k v h l p = by (removes all k.file)
   where
     by : (b : Bool) → Rising (keys_of (cond b os (put os k v)))

@@ -1,5 +1,6 @@
 -- What the changes of a batch speak of, and which of them may be made.
-use Rattle.std.specs.Prelude.{ℕ, Bool, true, false, not, ◌&&◌, ◌||◌, List, [], ◌∷◌, ◌==◌, nat_le}
+use Rattle.std.specs.Prelude.{ℕ, Bool, true, false, not, ◌&&◌, List, [], ◌∷◌, ◌==◌, nat_le}
+use Rattle.std.specs.List.{list_any}
 use Rattle.object.specs.declared.key.Key.{Key}
 use Rattle.object.specs.declared.value.Object.{Object}
 use Rattle.object.specs.declared.value.Object.TheVariants as object
@@ -34,8 +35,7 @@ sets (Remove f) k = false
 
 -- one of the changes sets the key
 abbrev pub sets_key : List Change → Key → Bool
-sets_key [] k = false
-sets_key (c ∷ cs) k = sets c k || sets_key cs k
+sets_key cs k = list_any (λ c. sets c k) cs
 
 -- this change sets a key of the file
 abbrev pub sets_in : Change → ℕ → Bool
@@ -44,8 +44,7 @@ sets_in (Remove g) f = false
 
 -- one of the changes sets a key of the file
 abbrev pub sets_file : List Change → ℕ → Bool
-sets_file [] f = false
-sets_file (c ∷ cs) f = sets_in c f || sets_file cs f
+sets_file cs f = list_any (λ c. sets_in c f) cs
 
 -- this change removes the file
 abbrev pub takes : Change → ℕ → Bool
@@ -54,8 +53,7 @@ takes (Remove g) f = g == f
 
 -- one of the changes removes the file
 abbrev pub removes : List Change → ℕ → Bool
-removes [] f = false
-removes (c ∷ cs) f = takes c f || removes cs f
+removes cs f = list_any (λ c. takes c f) cs
 
 -- no later change sets a key of a file that this one removes
 abbrev pub spares : Change → List Change → Bool

@@ -1,5 +1,6 @@
 -- How many keys a batch leaves, told from the keys before it and the changes alone.
 use Rattle.std.specs.Prelude.{ℕ, ◌+◌, Bool, true, false, cond, not, ◌&&◌, ◌||◌, List, [], ◌∷◌, ◌++◌, length, filter}
+use Rattle.std.specs.List.{list_all}
 use Rattle.object.specs.declared.key.Key.{Key}
 use Rattle.object_store.specs.declared.change.Change.{Change}
 use Rattle.object_store.specs.declared.change.Change.TheVariants.{Set, Remove}
@@ -31,5 +32,4 @@ stands ks all (Remove f) = true
 
 -- every key that the changes set stands so
 abbrev pub all_stand : List Key → List Change → List Change → Bool
-all_stand ks all [] = true
-all_stand ks all (c ∷ cs) = stands ks all c && all_stand ks all cs
+all_stand ks all cs = list_all (stands ks all) cs

@@ -1,5 +1,6 @@
 -- Which batches are refused, and why.
-use Rattle.std.specs.Prelude.{◌≡◌, ℕ, ◌≤◌, Bool, true, cond, ◌&&◌, ◌||◌, List, [], ◌∷◌, length, Ok, Err, Result, ◌==◌, nat_le, nat_lt}
+use Rattle.std.specs.Prelude.{◌≡◌, ℕ, ◌≤◌, Bool, true, cond, ◌&&◌, ◌||◌, List, length, Ok, Err, Result, ◌==◌, nat_le, nat_lt}
+use Rattle.std.specs.List.{list_all}
 use Rattle.object.specs.declared.key.Key.{Key}
 use Rattle.object_store.specs.declared.change.Change.{Change}
 use Rattle.object_store.specs.declared.fault.ObjectFault.{ObjectFault}
@@ -18,13 +19,11 @@ known ks unused f = has_file ks f || f == unused
 
 -- every change has its fields in range and speaks of a known file
 abbrev pub each_fits : List Key → ℕ → List Change → Bool
-each_fits ks unused [] = true
-each_fits ks unused (c ∷ cs) = (change_fits c && known ks unused (file_of c)) && each_fits ks unused cs
+each_fits ks unused cs = list_all (λ c. change_fits c && known ks unused (file_of c)) cs
 
 -- each of the keys has its file's entry among all
 abbrev pub entered : List Key → List Key → Bool
-entered all [] = true
-entered all (k ∷ ks) = has_key all (entry_of k) && entered all ks
+entered all ks = list_all (λ k. has_key all (entry_of k)) ks
 
 -- no chunk is without an entry
 abbrev pub rooted : List Key → Bool

@@ -1,11 +1,11 @@
 -- A table in lent memory as an object store.
-use Rattle.std.specs.Prelude.{◌≡◌, ℕ, ◌+◌, ◌≤◌, min, true, false, cond, List, [], ◌∷◌, length, take, Ok, Err, Result, ◌==◌}
+use Rattle.std.specs.Prelude.{ℕ, ◌+◌, ◌≤◌, min, true, false, cond, List, [], ◌∷◌, length, take, Result, ◌==◌}
 use Rattle.object.specs.declared.key.Key.{Key}
 use Rattle.object_store.specs.declared.change.Change.{Change}
 use Rattle.object_store.specs.declared.fault.ObjectFault.{ObjectFault}
 use Rattle.object_store.specs.declared.kept.Kept.{Kept}
 use Rattle.object_store.specs.Fit.{verdict}
-use Rattle.object_store.specs.Objects.{Objects, keys_of, after_batch}
+use Rattle.object_store.specs.Objects.{Objects, keys_of}
 use Rattle.object_store.specs.Shelf.{Shelf, Sound}
 
 -- the first number from n on that no key is of, where keys rise
@@ -30,9 +30,3 @@ pub record TableWhole (places : List Kept) (len : ℕ) : Type 0 where
 -- the answer to a batch on the map in the first len places
 abbrev pub table_verdict : List Kept → ℕ → List Change → Result (Unit {0}) ObjectFault
 table_verdict places len cs = verdict (take len places) (min (length places) 208) (gap 1 (keys_of (take len places))) false cs
-
--- the first n places hold the map after the batch; or it is refused, and nothing changed
-abbrev pub ChangesTable : List Kept → ℕ → List Change → Result ℕ ObjectFault → List Kept → Type 0
-ChangesTable before len cs (Ok n) after =
-    (table_verdict before len cs ≡ Ok tt) × (length after ≡ length before) × (take n after ≡ after_batch (take len before) cs) × TableWhole after n
-ChangesTable before len cs (Err e) after = (table_verdict before len cs ≡ Err e) × (after ≡ before)

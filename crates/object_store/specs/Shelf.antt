@@ -1,5 +1,6 @@
 -- What an object store holds and tells, and what is known of every one.
-use Rattle.std.specs.Prelude.{◌≡◌, ℕ, zero, suc, ◌≤◌, Bool, true, false, ◌&&◌, List, [], ◌∷◌, length, Some, None, Option}
+use Rattle.std.specs.Prelude.{◌≡◌, ℕ, ◌≤◌, Bool, true, false, ◌&&◌, List, [], ◌∷◌, length, Option}
+use Rattle.std.specs.List.{slice_get}
 use Rattle.object.specs.declared.key.Key.{Key}
 use Rattle.object_store.specs.Changes.{object_fits}
 use Rattle.object_store.specs.Fit.{rooted}
@@ -45,6 +46,4 @@ pub record Sound (s : Shelf) : Type 0 where
 
 -- the key at an index
 abbrev pub key_at : List Key → ℕ → Option Key
-key_at [] i = None
-key_at (k ∷ ks) zero = Some k
-key_at (k ∷ ks) (suc i) = key_at ks i
+key_at ks i = slice_get ks i

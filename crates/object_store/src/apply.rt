@@ -9,40 +9,36 @@ use crate::batch::removes;
 use crate::change::Change;
 use crate::edit::{drop_removed, put_record};
 use crate::kept::Kept;
+use crate::table_store::TableStore;
 
-// Puts in the key that the change sets, unless the batch removes its file.
-fn settle(places: &mut [Kept], len: usize, changes: &[Change], change: &Change) -> usize
-    requires { len ≤ length places.old }
-    ensures { HoldsNow places.old (settle_spec changes.now (take len places.old) change.now) result places.new }
-{
-    match change {
-        Change::Set(key, object) => {
-            if removes(changes, key.file) {
-                return len;
-            }
+impl<'a> TableStore<'a> {
+    // Puts in the key that the change sets, unless the batch removes its file.
+    fn settle(&mut self, changes: &[Change], change: &Change)
+        ensures { HoldsNow self.old.places.now (settle_spec changes.now (take self.old.len self.old.places.now) change.now) self.new.len self.new.places.now }
+    {
+        if let Change::Set(key, object) = change
+            && !removes(changes, key.file)
+        {
             let kept = Kept {
                 key: *key,
                 object: *object,
             };
-            put_record(places, len, kept)
+            self.len = put_record(self.places, self.len, kept);
         }
-        Change::Remove(_) => len,
     }
-}
 
-// Makes the batch of the map in the first `len` places; answers how many there are then.
-pub(crate) fn make(places: &mut [Kept], len: usize, changes: &[Change]) -> usize
-    requires within { len ≤ length places.old }
-    requires rising { Rising (keys_of (take len places.old)) }
-    requires order { (in_order changes.now ≡ true) × (Placeable changes.now) }
-    requires room { length (after_batch (take len places.old) changes.now) ≤ length places.old }
-    ensures after { take result places.new ≡ after_batch (take len places.old) changes.now }
-    ensures count { result ≡ length (after_batch (take len places.old) changes.now) }
-    ensures long { length places.new ≡ length places.old }
-{
-    let mut held = drop_removed(places, len, changes);
-    for change in changes {
-        held = settle(places, held, changes, change);
+    // Makes the batch of the map.
+    pub(crate) fn make(&mut self, changes: &[Change])
+        requires rising { Rising (keys_of (take self.old.len self.old.places.now)) }
+        requires order { (in_order changes.now ≡ true) × (Placeable changes.now) }
+        requires room { length (after_batch (take self.old.len self.old.places.now) changes.now) ≤ length self.old.places.now }
+        ensures after { take self.new.len self.new.places.now ≡ after_batch (take self.old.len self.old.places.now) changes.now }
+        ensures count { self.new.len ≡ length (after_batch (take self.old.len self.old.places.now) changes.now) }
+        ensures long { length self.new.places.now ≡ length self.old.places.now }
+    {
+        self.len = drop_removed(self.places, self.len, changes);
+        for change in changes {
+            self.settle(changes, change);
+        }
     }
-    held
 }

@@ -9,36 +9,21 @@ use object::Key;
 pub fn removes(changes: &[Change], file: u32) -> bool
     ensures { result ≡ removes_spec changes.now file }
 {
-    for change in changes {
-        if change.takes(file) {
-            return true;
-        }
-    }
-    false
+    changes.iter().any(|change| change.takes(file))
 }
 
 // Whether one of the changes sets the key.
 pub(crate) fn sets_key(changes: &[Change], key: &Key) -> bool
     ensures { result ≡ sets_key changes.now key.now }
 {
-    for change in changes {
-        if change.sets(key) {
-            return true;
-        }
-    }
-    false
+    changes.iter().any(|change| change.sets(key))
 }
 
 // Whether one of the changes sets a key of the file.
 fn sets_file(changes: &[Change], file: u32) -> bool
     ensures { result ≡ sets_file changes.now file }
 {
-    for change in changes {
-        if change.sets_in(file) {
-            return true;
-        }
-    }
-    false
+    changes.iter().any(|change| change.sets_in(file))
 }
 
 // Whether no later change sets a key of a file that this one removes.
@@ -51,14 +36,12 @@ fn spares(change: &Change, later: &[Change]) -> bool
     }
 }
 
-// Whether no key is set after its file's removal.
+// Whether no key is set after its file's removal. It goes as deep as there are changes: few, where a batch is judged.
 pub(crate) fn is_in_order(changes: &[Change]) -> bool
     ensures { result ≡ in_order changes.now }
 {
-    for i in 0..changes.len() {
-        if !spares(&changes[i], &changes[i + 1..]) {
-            return false;
-        }
+    match changes {
+        [] => true,
+        [first, later @ ..] => spares(first, later) && is_in_order(later),
     }
-    true
 }

@@ -20,7 +20,7 @@ fn may_hold(part: u8, object: &Object) -> bool
 {
     match object {
         Object::Entry(entry) => part == 0 && entry.fits(),
-        Object::Chunk(_) => 1 <= part && part <= CHUNK_LIMIT,
+        Object::Chunk(_) => (1..=CHUNK_LIMIT).contains(&part),
     }
 }
 
@@ -55,29 +55,20 @@ impl Change {
     pub(crate) fn sets(&self, key: &Key) -> bool
         ensures { result ≡ sets_spec self.now key.now }
     {
-        match self {
-            Change::Set(set, _) => set.file == key.file && set.part == key.part,
-            Change::Remove(_) => false,
-        }
+        matches!(self, Change::Set(set, _) if set == key)
     }
 
     // Whether it sets a key of this file.
     pub(crate) fn sets_in(&self, file: u32) -> bool
         ensures { result ≡ sets_in self.now file }
     {
-        match self {
-            Change::Set(key, _) => key.file == file,
-            Change::Remove(_) => false,
-        }
+        matches!(self, Change::Set(key, _) if key.file == file)
     }
 
     // Whether it removes this file.
     pub(crate) fn takes(&self, file: u32) -> bool
         ensures { result ≡ takes_spec self.now file }
     {
-        match self {
-            Change::Set(_, _) => false,
-            Change::Remove(removed) => *removed == file,
-        }
+        matches!(self, Change::Remove(removed) if *removed == file)
     }
 }

@@ -1,5 +1,5 @@
 // Which batches are refused, told from the keys of a table.
-ghost use Rattle.std.specs.Prelude.{◌≡◌, ◌≤◌, true, ◌&&◌, [], map, length};
+ghost use Rattle.std.specs.Prelude.{◌≡◌, ◌+◌, ◌≤◌, true, ◌&&◌, [], map, length};
 ghost use Rattle.object_store.specs.Changes.{change_fits, file_of, in_order};
 ghost use Rattle.object_store.specs.Counts.{all_stand, brings as brings_spec, brought, stands as stands_spec, staying};
 ghost use Rattle.object_store.specs.Fit.{Judges, count_fits, each_fits as each_fits_spec, known as known_spec};
@@ -31,12 +31,7 @@ fn admits<R: OfKey>(table: &[R], unused: u32, change: &Change) -> bool
 fn each_fits<R: OfKey>(table: &[R], unused: u32, changes: &[Change]) -> bool
     ensures { result ≡ each_fits_spec (map R.Keyed.keyed table.now) unused changes.now }
 {
-    for change in changes {
-        if !admits(table, unused, change) {
-            return false;
-        }
-    }
-    true
+    changes.iter().all(|change| admits(table, unused, change))
 }
 
 // Whether the key that the change sets is removed again, or its file has an entry before or by the batch.
@@ -56,12 +51,7 @@ fn stands<R: OfKey>(table: &[R], changes: &[Change], change: &Change) -> bool
 fn all_stand<R: OfKey>(table: &[R], changes: &[Change]) -> bool
     ensures { result ≡ all_stand (map R.Keyed.keyed table.now) changes.now changes.now }
 {
-    for change in changes {
-        if !stands(table, changes, change) {
-            return false;
-        }
-    }
-    true
+    changes.iter().all(|change| stands(table, changes, change))
 }
 
 // How many keys of the table stay.
@@ -69,13 +59,11 @@ fn count_staying<R: OfKey>(table: &[R], changes: &[Change]) -> usize
     ensures within { result ≤ length table.now }
     ensures count { result ≡ staying changes.now (map R.Keyed.keyed table.now) }
 {
-    let mut count = 0;
-    for record in table {
-        if !removes(changes, record.key().file) {
-            count += 1;
-        }
-    }
-    count
+    table
+        .iter()
+        .map(|record| record.key())
+        .filter(|key| !removes(changes, key.file))
+        .count()
 }
 
 // Whether the change brings a key that stays and was neither in the table nor set by an earlier change.
@@ -95,21 +83,26 @@ fn count_brought<R: OfKey>(table: &[R], changes: &[Change]) -> usize
     ensures within { result ≤ length changes.now }
     ensures count { result ≡ brought (map R.Keyed.keyed table.now) changes.now [] changes.now }
 {
-    let mut count = 0;
-    for i in 0..changes.len() {
-        if brings(table, changes, &changes[0..i], &changes[i]) {
-            count += 1;
-        }
-    }
-    count
+    changes
+        .iter()
+        .enumerate()
+        .filter(|(i, change)| brings(table, changes, &changes[..*i], change))
+        .count()
+}
+
+// How many keys the batch leaves.
+fn count_after<R: OfKey>(table: &[R], changes: &[Change]) -> usize
+    ensures { length table.now ≤ 208 → length changes.now ≤ 4 → result ≡ staying changes.now (map R.Keyed.keyed table.now) + brought (map R.Keyed.keyed table.now) changes.now [] changes.now }
+{
+    // A table that is judged for nothing may be of any length.
+    count_staying(table, changes).saturating_add(count_brought(table, changes))
 }
 
 // Whether the batch can be made of a map with these keys, whose chunks all have entries.
 fn is_fit<R: OfKey>(table: &[R], unused: u32, changes: &[Change]) -> bool
     ensures { result ≡ (count_fits changes.now && each_fits_spec (map R.Keyed.keyed table.now) unused changes.now && in_order changes.now && all_stand (map R.Keyed.keyed table.now) changes.now changes.now) }
 {
-    1 <= changes.len()
-        && changes.len() <= BATCH_LIMIT
+    (1..=BATCH_LIMIT).contains(&changes.len())
         && each_fits(table, unused, changes)
         && is_in_order(changes)
         && all_stand(table, changes)
@@ -130,8 +123,7 @@ pub fn judge<R: OfKey>(
     if !is_fit(table, unused, changes) {
         return Err(ObjectFault::Unfit);
     }
-    let keys = count_staying(table, changes).saturating_add(count_brought(table, changes));
-    if limit < keys {
+    if limit < count_after(table, changes) {
         return Err(ObjectFault::Full);
     }
     if spent {

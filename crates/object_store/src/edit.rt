@@ -1,33 +1,11 @@
 // Changes to a table whose first records are by rising key.
 ghost use Rattle.std.specs.Prelude.{◌≡◌, ◌<◌, ◌≤◌, length};
-ghost use Rattle.lookup.specs.Inserts.{Leads};
 ghost use Rattle.object_store.specs.Edits.{Puts, Spares, Unchanged};
-ghost use Rattle.object_store.specs.Tables.{rank as rank_spec};
 
 use crate::batch::removes;
 use crate::change::Change;
-use crate::table::{OfKey, same};
-use lookup::insert_at;
-use object::Key;
-
-// The key's place in the order.
-fn rank(key: &Key) -> u64
-    ensures { result ≡ rank_spec key.now }
-{
-    key.file as u64 * 256 + key.part as u64
-}
-
-// How many records lead, one after another, with a key of a lower rank.
-fn lower<R: OfKey>(records: &[R], than: u64) -> usize
-    ensures { Leads (λ x. rank_spec (R.Keyed.keyed x)) records.now than result }
-{
-    for (i, record) in records.iter().enumerate() {
-        if rank(&record.key()) >= than {
-            return i;
-        }
-    }
-    records.len()
-}
+use crate::table::OfKey;
+use lookup::{insert_at, retain};
 
 /// Puts a record among the first `len`, by rising key, in place of the one with its key; answers how many there are then.
 ///
@@ -40,15 +18,22 @@ pub fn put_record<R: OfKey + Copy>(records: &mut [R], len: usize, new: R) -> usi
         return len;
     }
     let key = new.key();
-    let at = lower(&records[0..len], rank(&key));
-    if at < len && same(&records[at].key(), &key) {
+    let rank = key.rank();
+    // Not `leading` of lookup: to ask that these records are `Ranked` would ask more of callers.
+    let at = records[..len]
+        .iter()
+        .position(|record| record.key().rank() >= rank)
+        .unwrap_or(len);
+    if records[..len]
+        .get(at)
+        .is_some_and(|record| record.key() == key)
+    {
         records[at] = new;
         return len;
     }
-    if insert_at(records, len, at, new) {
-        len + 1
-    } else {
-        len
+    match insert_at(records, len, at, new) {
+        Ok(()) => len + 1,
+        Err(_) => len,
     }
 }
 
@@ -60,13 +45,5 @@ pub fn drop_removed<R: OfKey + Copy>(records: &mut [R], len: usize, changes: &[C
     if len > records.len() {
         return len;
     }
-    let mut left = 0;
-    for i in 0..len {
-        let record = records[i];
-        if !removes(changes, record.key().file) {
-            records[left] = record;
-            left += 1;
-        }
-    }
-    left
+    retain(records, len, |record| !removes(changes, record.key().file))
 }

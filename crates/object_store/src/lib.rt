@@ -18,6 +18,7 @@ mod store;
 mod table;
 mod table_store;
 mod uses;
+mod work;
 
 pub use batch::removes;
 pub use change::Change;

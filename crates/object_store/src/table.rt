@@ -1,6 +1,6 @@
 // Tables of records that each stand for one key.
 ghost use Rattle.std.specs.Prelude.{◌≡◌, map};
-ghost use Rattle.object_store.specs.Tables.{has_file, has_key, same_key};
+ghost use Rattle.object_store.specs.Tables.{has_file, has_key};
 
 use crate::kept::Kept;
 use lookup::{Keyed, find};
@@ -18,12 +18,6 @@ impl OfKey for Kept {
     }
 }
 
-pub(crate) fn same(a: &Key, b: &Key) -> bool
-    ensures { result ≡ same_key a.now b.now }
-{
-    a.file == b.file && a.part == b.part
-}
-
 // Whether one of the records stands for the key.
 pub(crate) fn has_key<R: OfKey>(table: &[R], key: &Key) -> bool
     ensures { result ≡ has_key (map R.Keyed.keyed table.now) key.now }
@@ -35,10 +29,8 @@ pub(crate) fn has_key<R: OfKey>(table: &[R], key: &Key) -> bool
 pub(crate) fn has_file<R: OfKey>(table: &[R], file: u32) -> bool
     ensures { result ≡ has_file (map R.Keyed.keyed table.now) file }
 {
-    for record in table {
-        if record.key().file == file {
-            return true;
-        }
-    }
-    false
+    table
+        .iter()
+        .map(|record| record.key())
+        .any(|key| key.file == file)
 }

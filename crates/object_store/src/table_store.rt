@@ -1,15 +1,14 @@
 // An object store in the caller's memory.
-ghost use Rattle.std.specs.Prelude.{◌≡◌, ◌≤◌, length};
-ghost use Rattle.object_store.specs.Lent.{ChangesTable, TableWhole, gap, table_shelf};
+ghost use Rattle.std.specs.Prelude.{◌≡◌, ◌≤◌, length, min, take};
+ghost use Rattle.object_store.specs.Lent.{TableWhole, gap, table_shelf, table_verdict};
 ghost use Rattle.object_store.specs.Objects.{found, keys_of};
 
-use crate::apply::make;
 use crate::change::Change;
 use crate::check::judge;
 use crate::fault::ObjectFault;
 use crate::kept::Kept;
 use crate::store::{KEY_LIMIT, ObjectStore};
-use flash::PAGE_BYTES;
+use crate::work::check_page;
 use lookup::find;
 use object::{Key, Object};
 
@@ -17,10 +16,7 @@ use object::{Key, Object};
 fn find_object(map: &[Kept], key: &Key) -> Option<Object>
     ensures { result ≡ found map.now key.now }
 {
-    match find(map, key) {
-        Some(i) => Some(map[i].object),
-        None => None,
-    }
+    find(map, key).map(|i| map[i].object)
 }
 
 // The lowest number that no key is of.
@@ -37,22 +33,13 @@ fn lowest_unused(map: &[Kept]) -> u32
     number
 }
 
-// Makes the batch of the map in the first `len` places, or says why not; answers how many keys there are then.
-fn change_table(places: &mut [Kept], len: usize, changes: &[Change]) -> Result<usize, ObjectFault>
-    requires { TableWhole places.old len }
-    ensures { ChangesTable places.old len changes.now result places.new }
-{
-    let map = &places[0..len];
-    let limit = places.len().min(KEY_LIMIT);
-    judge(map, limit, lowest_unused(map), false, changes)?;
-    Ok(make(places, len, changes))
-}
-
 /// A map in lent places, up to 208 of them. Its power never goes, and its numbers are never spent.
 #[derive(Drop)]
 pub struct TableStore<'a> {
-    places: &'a mut [Kept],
-    len: usize,
+    // Lent, as there is no heap; the first ones hold the map.
+    pub(crate) places: &'a mut [Kept],
+    pub(crate) len: usize,
+    ghost within: { len ≤ length places.now },
 }
 
 impl<'a> TableStore<'a> {
@@ -63,6 +50,29 @@ impl<'a> TableStore<'a> {
         ensures whole { TableWhole result.places.now result.len }
     {
         TableStore { places, len: 0 }
+    }
+
+    // The keys and what stands under them.
+    fn map(&self) -> &[Kept]
+        ensures { result.now ≡ take self.now.len self.now.places.now }
+    {
+        &self.places[..self.len]
+    }
+
+    // The places, up to 208.
+    fn room(&self) -> usize
+        ensures { result ≡ min (length self.now.places.now) 208 }
+    {
+        self.places.len().min(KEY_LIMIT)
+    }
+
+    // The answer to a batch.
+    fn judge(&self, changes: &[Change]) -> Result<(), ObjectFault>
+        requires { TableWhole self.now.places.now self.now.len }
+        ensures { result ≡ table_verdict self.now.places.now self.now.len changes.now }
+    {
+        let map = self.map();
+        judge(map, self.room(), lowest_unused(map), false, changes)
     }
 }
 
@@ -80,19 +90,15 @@ impl<'a> ObjectStore for TableStore<'a> {
     }
 
     fn key(&self, index: usize) -> Result<Option<Key>, ObjectFault> {
-        if index < self.len {
-            Ok(Some(self.places[index].key))
-        } else {
-            Ok(None)
-        }
+        Ok(self.map().get(index).map(|kept| kept.key))
     }
 
     fn limit(&self) -> Result<usize, ObjectFault> {
-        Ok(self.places.len().min(KEY_LIMIT))
+        Ok(self.room())
     }
 
     fn unused(&self) -> Result<u32, ObjectFault> {
-        Ok(lowest_unused(&self.places[0..self.len]))
+        Ok(lowest_unused(self.map()))
     }
 
     fn is_spent(&self) -> Result<bool, ObjectFault> {
@@ -100,33 +106,24 @@ impl<'a> ObjectStore for TableStore<'a> {
     }
 
     fn get(&self, work: &mut [u8], key: &Key) -> Result<Option<Object>, ObjectFault> {
-        if work.len() != PAGE_BYTES {
-            return Err(ObjectFault::WorkPage);
-        }
-        Ok(find_object(&self.places[0..self.len], key))
+        check_page(work)?;
+        Ok(find_object(self.map(), key))
     }
 
     fn batch(&mut self, work: &mut [u8], changes: &[Change]) -> Result<(), ObjectFault> {
-        if work.len() != PAGE_BYTES {
-            return Err(ObjectFault::WorkPage);
-        }
-        let len = self.len;
-        self.len = change_table(self.places, len, changes)?;
+        check_page(work)?;
+        self.judge(changes)?;
+        self.make(changes);
         Ok(())
     }
 
     fn format(&mut self, work: &mut [u8]) -> Result<(), ObjectFault> {
-        if work.len() != PAGE_BYTES {
-            return Err(ObjectFault::WorkPage);
-        }
+        check_page(work)?;
         self.len = 0;
         Ok(())
     }
 
     fn mount(&mut self, work: &mut [u8]) -> Result<(), ObjectFault> {
-        if work.len() != PAGE_BYTES {
-            return Err(ObjectFault::WorkPage);
-        }
-        Ok(())
+        check_page(work)
     }
 }

@@ -7,7 +7,7 @@ ghost use Rattle.object_store.specs.Uses.{Creates, as_entry, entries_in, entry_u
 use crate::change::Change;
 use crate::fault::ObjectFault;
 use crate::store::ObjectStore;
-use flash::PAGE_BYTES;
+use crate::work::check_page;
 use object::{Key, Object};
 use page::Entry;
 
@@ -15,10 +15,7 @@ use page::Entry;
 fn is_entry(key: Option<Key>) -> bool
     ensures { result ≡ some_entry key }
 {
-    match key {
-        Some(key) => key.part == 0,
-        None => false,
-    }
+    key.is_some_and(|key| key.part == 0)
 }
 
 /// How many files and directories the map has.
@@ -27,6 +24,7 @@ pub fn count_entries<S: ObjectStore>(store: &S) -> Result<usize, ObjectFault>
     ensures { result ≡ told (S.ObjectStore.shelf store.now) (entries_in (keys_of (S.ObjectStore.shelf store.now).objects)) }
 {
     let mut entries = 0;
+    // A chain would have to carry the refusal that each key may be.
     for index in 0..store.count()? {
         if is_entry(store.key(index)?) {
             entries += 1;
@@ -69,9 +67,7 @@ pub fn create<S: ObjectStore>(
     ensures says { Creates (length work.old) (S.ObjectStore.shelf store.old) entry result (S.ObjectStore.shelf store.new) }
     ensures whole { S.ObjectStore.whole store.new }
 {
-    if work.len() != PAGE_BYTES {
-        return Err(ObjectFault::WorkPage);
-    }
+    check_page(work)?;
     let file = store.unused()?;
     let change = Change::Set(Key::entry(file), Object::Entry(entry));
     store.batch(work, &[change])?;

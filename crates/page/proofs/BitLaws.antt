@@ -1,5 +1,5 @@
 -- The fields of a page by its bytes: a field within one byte, a field in two parts, and a number of four bytes.
-use Rattle.std.proofs.Common.{◌≡◌, ℕ, zero, suc, ◌+◌, ◌-◌, ◌*◌, ◌/◌, ◌%◌, ◌^◌, ◌<◌, ◌≤◌, List, get_or, sym, refl, ap, ◌∙◌, ap₂, add-zero, add_assoc, add-suc, mul_assoc, pow-suc, add-one, arith, shr-shr}
+use Rattle.std.proofs.Common.{◌≡◌, ℕ, zero, suc, ◌+◌, ◌-◌, ◌*◌, ◌/◌, ◌%◌, ◌^◌, ◌<◌, ◌≤◌, List, get_or, sym, refl, ap, ◌∙◌, ap₂, add-zero, add_assoc, add-suc, mul_assoc, pow-suc, add-one, arith, shr-shr, pow_mono}
 use native.Mathlib.Nat.{mod-one}
 use lib.Pow.{mod-pow-add}
 use Rattle.page.specs.Bits.{bit, field}
@@ -7,6 +7,10 @@ use Rattle.page.specs.Bits.{bit, field}
 pub bit_below : (page : List ℕ) (k : ℕ) → bit page k < 2
 unfolding bit
 bit_below page k = omega arith
+
+-- a number of fewer than 32 bits has room for one more
+pub room_for_bit : (n i : ℕ) → n < 2 ^ i → i < 32 → 2 * n + 1 < 2 ^ 32
+room_for_bit n i s l = let p : 2 ^ suc i ≤ 2 ^ 32 = pow_mono {i = suc i} {j = 32} (omega arith) in omega arith
 
 pub field_more : (page : List ℕ) (from w : ℕ) → field page from (w + 1) ≡ 2 * field page from w + bit page (from + w)
 unfolding field

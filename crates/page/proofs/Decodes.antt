@@ -19,10 +19,10 @@ pub record Made (page : Page) (h : Header) (o : Option Content) : Type 0 where
 
 checked_ok : (t : Bool) (p page : Page) → cond {A = Result Page PageFault} t (Ok p) (Err OutOfRange) ≡ Ok page → (t ≡ true) × (p ≡ page)
 checked_ok true p page e = (refl, cc)
-checked_ok false p page e = let z : ◌≡◌ {A = ℕ} 0 1 = cc in absurd (omega arith)
+checked_ok false p page e = absurd cc
 
 pub assembled_ok : (h : Header) (o : Option Content) (page : Page) → assembled h o ≡ Ok page → Made page h o
-assembled_ok h None page e = let z : ◌≡◌ {A = ℕ} 0 1 = cc in absurd (omega arith)
+assembled_ok h None page e = absurd cc
 assembled_ok h (Some c) page e =
     let p : Page = record { header = h; content = c } in
     let both = checked_ok (fits p) p page e in
@@ -34,7 +34,7 @@ assembled_ok h (Some c) page e =
 
 data_ok : (t : Bool) (r : Result Page PageFault) (page : Page) → cond t r (Err NotData) ≡ Ok page → (t ≡ true) × (r ≡ Ok page)
 data_ok true r page e = (refl, e)
-data_ok false r page e = let z : ◌≡◌ {A = ℕ} 0 1 = cc in absurd (omega arith)
+data_ok false r page e = absurd cc
 
 -- bytes that decode are data, and give the page's header and content, which fit
 pub decoded_ok : (bytes : List ℕ) (page : Page) → decoded bytes ≡ Ok page → (is_data bytes ≡ true) × Made page (header_at bytes) (content_at bytes)
@@ -49,12 +49,12 @@ unfolding is_data
 data_settled bytes t = let e : stored_count bytes ≡ zero_count bytes = eqb-true _ _ t in omega arith
 
 assembled_read : (h : Header) (o : Option Content) → assembled h o ≡ Err NotData → ⊥
-assembled_read h None e = let z : ◌≡◌ {A = ℕ} 0 1 = cc in omega arith
+assembled_read h None e = cc
 assembled_read h (Some c) e = go (fits (record { header = h; content = c })) e
   where
     go : (t : Bool) → cond {A = Result Page PageFault} t (Ok (record { header = h; content = c })) (Err OutOfRange) ≡ Err NotData → ⊥
-    go true x = let z : ◌≡◌ {A = ℕ} 0 1 = cc in omega arith
-    go false x = let z : ◌≡◌ {A = ℕ} 0 1 = cc in omega arith
+    go true x = cc
+    go false x = cc
 
 -- a data page is never taken for none
 pub data_read : (bytes : List ℕ) → is_data bytes ≡ true → decoded bytes ≡ Err NotData → ⊥

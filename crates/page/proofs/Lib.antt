@@ -1,7 +1,6 @@
 pub mod Rising
 pub mod BitLaws
 pub mod Padding
-pub mod Same
 pub mod Pasting
 pub mod Packing
 pub mod Ranges

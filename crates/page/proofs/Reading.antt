@@ -2,6 +2,7 @@
 use Rattle.std.proofs.Common.{◌≡◌, ℕ, ◌+◌, ◌-◌, ◌*◌, ◌/◌, ◌%◌, ◌<◌, ◌≤◌, min, cond, eqb, List, ◌++◌, length, get_or, take, drop, sym, refl, ap, ◌∙◌, ap₂, arith, length-append}
 use lib.ListN.{length-replicate}
 use Rattle.std.proofs.lemmas.List.{get_or-take, get_or-drop, length-take-le, take_at}
+use Rattle.std.proofs.lemmas.Slice.Eq.{bytes_eq-Decides}
 use Rattle.page.specs.declared.fields.Header.{Header}
 use Rattle.page.specs.declared.fields.EntryKind.{EntryKind}
 use Rattle.page.specs.declared.fields.EntryKind.TheVariants.{File, Directory}
@@ -16,7 +17,6 @@ use Rattle.page.proofs.BitLaws.{field_in, field_split, field_byte, field_32}
 use Rattle.page.proofs.Packing.{unpacked}
 use Rattle.page.proofs.Padding.{same_names}
 use Rattle.page.proofs.Ranges.{HeaderRanges, NameRanges, EntryRanges, directory_bit_range}
-use Rattle.page.proofs.Same.{same_from_test}
 
 -- a byte of a part whose bytes are known
 byte_of : (q : List ℕ) (at m i : ℕ) (xs : List ℕ) → i < m → take m (drop at q) ≡ xs → get_or q (at + i) 0 ≡ get_or xs i 0
@@ -61,7 +61,7 @@ header_read q kind h r l ln lf e en ef eg =
 -- the places of a name are its bytes and zeros
 pub name_long : (n : Name) → NameRanges n → length (name_text n) ≡ n.len
 name_long n r =
-    let e : n.bytes ≡ padded (name_text n) = same_from_test n.bytes (padded (name_text n)) r.zeros in
+    let e : n.bytes ≡ padded (name_text n) = (bytes_eq-Decides n.bytes (padded (name_text n))).0 r.zeros in
     let t = name_text n in
     let l : length n.bytes ≡ length t + (24 - length t) = ap length e ∙ length-append t _ ∙ ap (λ k. length t + k) (length-replicate (24 - length t) 0) in
     let few : min 24 n.len ≡ n.len = omega (arith, r.short) in
@@ -74,7 +74,7 @@ name_read q n rest r e d =
     let part : take (min 24 (field q 166 5)) (drop 22 q) ≡ t =
     ap (λ k. take k (drop 22 q)) few ∙ ap (take n.len) d ∙ take_at t rest n.len (name_long n r)
     in
-    same_names (name_at q) n e (ap padded part ∙ sym (same_from_test n.bytes (padded t) r.zeros))
+    same_names (name_at q) n e (ap padded part ∙ sym ((bytes_eq-Decides n.bytes (padded t)).0 r.zeros))
 
 kind_back : (k : EntryKind) → cond (eqb (directory_bit k) 1) Directory File ≡ k
 kind_back File = refl

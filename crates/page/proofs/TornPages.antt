@@ -1,8 +1,10 @@
 -- A mixture of old and final bits, where the old or the final ones are all 1, is a page whose bits rose.
-use Rattle.std.proofs.Common.{◌≡◌, ℕ, zero, suc, ◌+◌, ◌-◌, ◌*◌, ◌/◌, ◌%◌, ◌^◌, ◌<◌, ◌≤◌, true, ◌⊎◌, List, [], ◌∷◌, length, get_or, sym, refl, ap, ◌∙◌, subst, inl, inr, arith}
+use Rattle.std.proofs.Common.{◌≡◌, ℕ, suc, ◌+◌, ◌-◌, ◌*◌, ◌%◌, ◌^◌, ◌<◌, true, List, [], ◌∷◌, length, get_or, sym, ap, ◌∙◌, subst, arith}
 use native.Mathlib.Decide.{dec_lt}
-use lib.Bits.{bit_and, bit_xor, differ, and_step, xor_step, and_self, and_comm, and_zero_l}
-use Rattle.std.proofs.lemmas.Nat.{and_mask, pow_pos}
+use lib.Bits.{bit_and, bit_xor, and_self, and_comm}
+use Rattle.std.specs.Int.{bit_at}
+use Rattle.std.proofs.lemmas.Nat.{and_le_l, and_mask}
+use Rattle.std.proofs.lemmas.Nat.Bits.{bit_at-lt, bit_at-zero, bit_at_and, bit_at_ones, bit_at_xor, same_from_bits, same_from_bits_below}
 use Rattle.std.proofs.lemmas.List.{ext_get_or, get_or-replicate, length-replicate}
 use Rattle.flash.specs.Chip.{Chip, Formed, InBlock, Mixed, Torn, blank, page, cleared, programmed, erased}
 use Rattle.flash.proofs.Chips.{programmed_here, programmed_else}
@@ -14,52 +16,23 @@ use Rattle.page.specs.Code.{is_data, Raised, Settled}
 use Rattle.page.specs.Tearing.{TornProgramAddsNone, TornEraseAddsNone}
 use Rattle.page.proofs.Rising.{rising_spoils}
 
--- bits of 0 and 1 that differ
-differ_bit : (a b : ℕ) → a < 2 → b < 2 → ((a ≡ b) × (differ a b ≡ 0)) ⊎ ((a + b ≡ 1) × (differ a b ≡ 1))
-differ_bit zero zero h l = inl (refl, refl)
-differ_bit zero (suc zero) h l = inr (refl, refl)
-differ_bit (suc zero) zero h l = inr (refl, refl)
-differ_bit (suc zero) (suc zero) h l = inl (refl, refl)
-differ_bit (suc (suc a)) b h l = absurd (omega arith)
-differ_bit zero (suc (suc b)) h l = absurd (omega arith)
-differ_bit (suc zero) (suc (suc b)) h l = absurd (omega arith)
-
 -- no difference, no change
-pub xor_none : (k a b : ℕ) → a < 2 ^ k → b < 2 ^ k → bit_xor a b ≡ 0 → a ≡ b
-xor_none zero a b la lb e = omega arith
-xor_none (suc k) a b la lb e =
-    let s : bit_xor a b ≡ bit_xor (a / 2) (b / 2) * 2 + differ (a % 2) (b % 2) = xor_step a b in
-    let half : a / 2 ≡ b / 2 = xor_none k (a / 2) (b / 2) (omega arith) (omega arith) (omega arith) in
-    elim (differ_bit (a % 2) (b % 2) (omega arith) (omega arith)) [
-      | inl same ↦ omega (arith, same.0)
-      | inr other ↦ absurd (omega (arith, other.1))
-    ]
+xor_none : (a b : ℕ) → bit_xor a b ≡ 0 → a ≡ b
+xor_none a b e =
+    same_from_bits a b (λ i.
+    let none : bit_at (bit_xor a b) i ≡ 0 = ap (λ n. bit_at n i) e ∙ bit_at-zero i in
+    omega (arith, bit_at_xor a b i, bit_at-lt a i, bit_at-lt b i))
 
 -- each bit of s is that of x, or 1
-pub mixed_rose : (k s x : ℕ) → s < 2 ^ k → x < 2 ^ k → bit_and (bit_xor s x) (bit_xor s (2 ^ k - 1)) ≡ 0 → bit_and x s ≡ x
-mixed_rose zero s x ls lx e = let z : x ≡ 0 = omega arith in ap (λ y. bit_and y s) z ∙ and_zero_l s ∙ sym z
-mixed_rose (suc k) s x ls lx e =
-    let pos = pow_pos k in
-    let mh : (2 ^ suc k - 1) / 2 ≡ 2 ^ k - 1 = omega (arith, pos) in
-    let ml : (2 ^ suc k - 1) % 2 ≡ 1 = omega (arith, pos) in
-    let sa : bit_xor s x ≡ bit_xor (s / 2) (x / 2) * 2 + differ (s % 2) (x % 2) = xor_step s x in
-    let sb : bit_xor s (2 ^ suc k - 1) ≡ bit_xor (s / 2) ((2 ^ suc k - 1) / 2) * 2 + differ (s % 2) ((2 ^ suc k - 1) % 2) = xor_step s (2 ^ suc k - 1) in
-    let sab = and_step (bit_xor s x) (bit_xor s (2 ^ suc k - 1)) in
-    let step = and_step x s in
-    let da = differ_bit (s % 2) (x % 2) (omega arith) (omega arith) in
-    let db = differ_bit (s % 2) ((2 ^ suc k - 1) % 2) (omega arith) (omega arith) in
-    let low_a : differ (s % 2) (x % 2) < 2 = elim da [ inl d ↦ omega (arith, d.1) | inr d ↦ omega (arith, d.1) ] in
-    let low_b : differ (s % 2) ((2 ^ suc k - 1) % 2) < 2 = elim db [ inl d ↦ omega (arith, d.1) | inr d ↦ omega (arith, d.1) ] in
-    let half_a : bit_xor s x / 2 ≡ bit_xor (s / 2) (x / 2) = omega arith in
-    let half_b : bit_xor s (2 ^ suc k - 1) / 2 ≡ bit_xor (s / 2) (2 ^ k - 1) = (let h : bit_xor s (2 ^ suc k - 1) / 2 ≡ bit_xor (s / 2) ((2 ^ suc k - 1) / 2) = omega arith in h) ∙ ap (λ i. bit_xor (s / 2) i) mh in
-    let none : bit_and (bit_xor (s / 2) (x / 2)) (bit_xor (s / 2) (2 ^ k - 1)) ≡ 0 =
-    ap (λ i. bit_and i (bit_xor (s / 2) (2 ^ k - 1))) (sym half_a) ∙ ap (λ i. bit_and (bit_xor s x / 2) i) (sym half_b) ∙ (let z : bit_and (bit_xor s x / 2) (bit_xor s (2 ^ suc k - 1) / 2) ≡ 0 = omega arith in z) in
-    let ih : bit_and (x / 2) (s / 2) ≡ x / 2 = mixed_rose k (s / 2) (x / 2) (omega arith) (omega arith) none in
-    let up : x % 2 ≤ s % 2 = elim da [
-      | inl same ↦ omega (arith, same.0)
-      | inr other ↦ elim db [ inl same ↦ omega (arith, same.0) | inr both ↦ (omega (arith, other.0, other.1, both.0, both.1)) ]
-    ] in
-    omega arith
+mixed_rose : (k s x : ℕ) → x < 2 ^ k → bit_and (bit_xor s x) (bit_xor s (2 ^ k - 1)) ≡ 0 → bit_and x s ≡ x
+mixed_rose k s x lx e =
+    same_from_bits_below k (bit_and x s) x (omega (arith, and_le_l x s)) lx (λ i h.
+    let ones = 2 ^ k - 1 in
+    let none : bit_at (bit_and (bit_xor s x) (bit_xor s ones)) i ≡ 0 = ap (λ n. bit_at n i) e ∙ bit_at-zero i in
+    let both = bit_at_and (bit_xor s x) (bit_xor s ones) i in
+    let kept = bit_at_and x s i in
+    let one = bit_at_ones k i h in
+    omega (arith, bit_at_xor s x i, bit_at_xor s ones i, bit_at-lt s i, bit_at-lt x i))
 
 -- bytes whose bits are those of xs or 1 are xs risen
 raised : (xs ys : List ℕ) → length ys ≡ length xs → ((k : ℕ) → get_or xs k 0 < 256) → ((k : ℕ) → get_or ys k 0 < 256)
@@ -68,14 +41,14 @@ raised [] [] l bx by m = tt
 raised [] (y ∷ ys) l bx by m = absurd (omega arith)
 raised (x ∷ xs) [] l bx by m = absurd (omega arith)
 raised (x ∷ xs) (y ∷ ys) l bx by m = (
-  record { from_byte = bx 0; to_byte = by 0; kept = mixed_rose 8 y x (by 0) (bx 0) (m 0 (omega arith)) },
+  record { from_byte = bx 0; to_byte = by 0; kept = mixed_rose 8 y x (bx 0) (m 0 (omega arith)) },
   raised xs ys (omega arith) (λ k. bx (suc k)) (λ k. by (suc k)) (λ k h. m (suc k) (omega arith)),
 )
 
 -- a page on the way from itself to itself is itself
 unmixed : (x s : List ℕ) → ((k : ℕ) → get_or x k 0 < 256) → ((k : ℕ) → get_or s k 0 < 256) → Mixed x x s → s ≡ x
 unmixed x s bx bs m =
-    ext_get_or 0 s x m.0 (λ k _. xor_none 8 (get_or s k 0) (get_or x k 0) (bs k) (bx k) (sym (and_self (bit_xor (get_or s k 0) (get_or x k 0))) ∙ m.1 k))
+    ext_get_or 0 s x m.0 (λ k _. xor_none (get_or s k 0) (get_or x k 0) (sym (and_self (bit_xor (get_or s k 0) (get_or x k 0))) ∙ m.1 k))
 
 -- each page that the final chip has as the old one is as it was
 untouched : (n : ℕ) (c f d : Chip) (q : ℕ) → Formed n c → Formed n d → Torn c f d → page f q ≡ page c q → page d q ≡ page c q

@@ -1,6 +1,8 @@
 -- The bits of an encoded page that belong to no field are ones.
-use Rattle.std.proofs.Common.{◌≡◌, ℕ, zero, suc, ◌+◌, ◌-◌, ◌*◌, ◌/◌, ◌%◌, ◌^◌, ◌<◌, ◌≤◌, true, false, ◌⊎◌, ◌++◌, length, get_or, replicate, sum_by, refl, ap, ◌∙◌, inl, inr, arith}
+use Rattle.std.proofs.Common.{◌≡◌, ℕ, ◌+◌, ◌-◌, ◌*◌, ◌/◌, ◌%◌, ◌^◌, ◌<◌, ◌≤◌, true, false, ◌⊎◌, ◌++◌, length, get_or, replicate, sum_by, refl, ap, ◌∙◌, inl, inr, arith}
+use Rattle.std.specs.Int.{bit_at}
 use Rattle.std.proofs.lemmas.List.{get_or-append_right, get_or-replicate}
+use Rattle.std.proofs.lemmas.Nat.Bits.{bit_at_cat_low, bit_at_ones}
 use Rattle.std.proofs.lemmas.Bool.{and_parts, and_cases, or_parts, cases_lt, leb-false, ltb-false}
 use Rattle.page.specs.declared.fields.Header.{Header}
 use Rattle.page.specs.declared.fields.Entry.{Entry}
@@ -23,25 +25,11 @@ use Rattle.page.proofs.Reading.{name_long}
 outside : (from to k : ℕ) → within from to k ≡ false → (k < from) ⊎ (to ≤ k)
 outside from to k t = elim (and_cases _ _ t) [ inl e ↦ inl (leb-false _ _ e) | inr e ↦ inr (ltb-false _ _ e) ]
 
--- the last bits of a byte that ends in five ones, and of one that is all ones
-low_ones : (e b : ℕ) → e < 5 → b % 32 ≡ 31 → b / 2 ^ e % 2 ≡ 1
-low_ones zero b l h = omega arith
-low_ones (suc zero) b l h = omega arith
-low_ones (suc (suc zero)) b l h = omega arith
-low_ones (suc (suc (suc zero))) b l h = omega arith
-low_ones (suc (suc (suc (suc zero)))) b l h = omega arith
-low_ones (suc (suc (suc (suc (suc e))))) b l h = absurd (omega arith)
-
-all_ones : (e : ℕ) → e < 8 → 255 / 2 ^ e % 2 ≡ 1
-all_ones zero l = refl
-all_ones (suc zero) l = refl
-all_ones (suc (suc zero)) l = refl
-all_ones (suc (suc (suc zero))) l = refl
-all_ones (suc (suc (suc (suc zero)))) l = refl
-all_ones (suc (suc (suc (suc (suc zero))))) l = refl
-all_ones (suc (suc (suc (suc (suc (suc zero)))))) l = refl
-all_ones (suc (suc (suc (suc (suc (suc (suc zero))))))) l = refl
-all_ones (suc (suc (suc (suc (suc (suc (suc (suc e)))))))) l = absurd (omega arith)
+-- the last bits of a byte that ends in five ones
+low_ones : (e b : ℕ) → e < 5 → b % 32 ≡ 31 → bit_at b e ≡ 1
+low_ones e b l h =
+    let split : b ≡ b / 32 * 2 ^ 5 + 31 = omega arith in
+    ap (λ n. bit_at n e) split ∙ bit_at_cat_low (b / 32) 5 31 e l ∙ bit_at_ones 5 e l
 
 -- past the fields every byte is 255
 past : (page : Page) (j : ℕ) → 2 + length (written page) ≤ j → j < 256 → get_or (encoded page) j 0 ≡ 255
@@ -57,7 +45,7 @@ past_bit : (page : Page) (k : ℕ) → 8 * (2 + length (written page)) ≤ k →
 unfolding bit
 past_bit page k l u =
     let e : get_or (encoded page) (k / 8) 0 ≡ 255 = past page (k / 8) (omega arith) (omega arith) in
-    ap (λ b. b / 2 ^ (7 - k % 8) % 2) e ∙ all_ones (7 - k % 8) (omega arith)
+    ap (λ b. b / 2 ^ (7 - k % 8) % 2) e ∙ bit_at_ones 8 (7 - k % 8) (omega arith)
 
 -- the last bit of byte 2
 lead_bit : (page : Page) → bit (encoded page) 23 ≡ 1

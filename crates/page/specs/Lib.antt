@@ -1,6 +1,7 @@
 pub mod Code
 pub mod Bits
 pub mod Names
+pub mod Kinds
 pub mod Fields
 pub mod Fits
 pub mod Decoded

@@ -1,5 +1,6 @@
 -- The names of files and directories, and how a name fills its 24 places.
-use Rattle.std.specs.Prelude.{ℕ, ◌-◌, min, Bool, true, not, ◌&&◌, ◌||◌, List, [], ◌∷◌, ◌++◌, length, take, replicate, codes, ◌==◌, nat_le}
+use Rattle.std.specs.Prelude.{ℕ, ◌-◌, min, Bool, not, ◌&&◌, ◌||◌, List, ◌++◌, length, take, replicate, codes, ◌==◌, nat_le}
+use Rattle.std.specs.List.{list_all}
 use Rattle.std.specs.Str.{bytes_eq}
 use Rattle.page.specs.declared.names.Name.{Name}
 
@@ -9,8 +10,7 @@ name_byte b = nat_le 33 b && nat_le b 126 && not (b == 47)
 
 -- every byte may stand in a name
 abbrev pub name_bytes : List ℕ → Bool
-name_bytes [] = true
-name_bytes (b ∷ bs) = name_byte b && name_bytes bs
+name_bytes bs = list_all name_byte bs
 
 -- the two names that paths keep for themselves
 abbrev pub dots : List ℕ → Bool

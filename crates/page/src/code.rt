@@ -1,6 +1,6 @@
 // The code that tells a whole page from a torn one: bytes 0 and 1 count the 0 bits of all others.
-ghost use Rattle.std.specs.Prelude.{◌≡◌};
-ghost use Rattle.page.specs.Code.{state_of, is_data, is_blank, stored_count, zero_count, RisingSpoils};
+ghost use Rattle.std.specs.Prelude.{◌≡◌, ◌≤◌, length, sum_by};
+ghost use Rattle.page.specs.Code.{state_of, is_data, is_blank, stored_count, zero_count, zeros_of, RisingSpoils};
 
 use crate::layout::{COUNT_BYTES, ONES};
 use flash::PAGE_BYTES;
@@ -13,16 +13,18 @@ pub enum PageState {
     Spoilt,
 }
 
+fn zeros(bytes: &[u8]) -> u16
+    requires { length bytes.now ≤ 256 }
+    ensures { result ≡ sum_by zeros_of bytes.now }
+{
+    bytes.iter().map(|byte| byte.count_zeros() as u16).sum()
+}
+
 /// The number of 0 bits in the page's bytes 2 to 255.
 pub fn zero_count(page: &[u8; PAGE_BYTES]) -> u16
     ensures { result ≡ zero_count page.now }
 {
-    let mut zeros: u16 = 0;
-    let body = &page[COUNT_BYTES..PAGE_BYTES];
-    for byte in body {
-        zeros += byte.count_zeros() as u16;
-    }
-    zeros
+    zeros(&page[COUNT_BYTES..])
 }
 
 // The number in bytes 0 and 1, high byte first.
@@ -33,6 +35,7 @@ fn stored_count(page: &[u8; PAGE_BYTES]) -> u16
 }
 
 // Whether the page stores its own zero count.
+#[tactic(auto, unfolding(crate::specs::Code::is_data))]
 pub(crate) fn is_data(page: &[u8; PAGE_BYTES]) -> bool
     ensures { result ≡ is_data page.now }
 {
@@ -40,6 +43,7 @@ pub(crate) fn is_data(page: &[u8; PAGE_BYTES]) -> bool
 }
 
 // Whether every bit of the page is 1.
+#[tactic(auto, unfolding(crate::specs::Code::blank))]
 fn is_blank(page: &[u8; PAGE_BYTES]) -> bool
     ensures { result ≡ is_blank page.now }
 {

@@ -36,7 +36,7 @@ pub struct Entry {
 }
 
 /// A part of a file's bytes.
-#[derive(Clone, Copy)]
+#[derive(Clone, Copy, PartialEq, Eq, Debug)]
 pub struct Chunk {
     /// The chunk's place in its file, 0 to 31.
     pub index: u8,
@@ -44,7 +44,7 @@ pub struct Chunk {
 }
 
 /// What a page says of its file.
-#[derive(Clone, Copy)]
+#[derive(Clone, Copy, PartialEq, Eq, Debug)]
 pub enum Content {
     /// Nothing: the page only carries a number and a floor.
     Note,
@@ -55,7 +55,7 @@ pub enum Content {
 }
 
 /// A data page.
-#[derive(Clone, Copy)]
+#[derive(Clone, Copy, PartialEq, Eq, Debug)]
 pub struct Page {
     pub header: Header,
     pub content: Content,

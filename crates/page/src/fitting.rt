@@ -9,17 +9,15 @@ impl Header {
     fn fits(&self) -> bool
         ensures { result ≡ header_fits self.now }
     {
-        1 <= self.size
-            && self.size <= GROUP_LIMIT
+        (1..=GROUP_LIMIT).contains(&self.size)
             && self.index < self.size
-            && 1 <= self.floor
-            && self.floor <= self.number
+            && (1..=self.number).contains(&self.floor)
     }
 
     fn file_fits(&self) -> bool
         ensures { result ≡ file_fits self.now }
     {
-        1 <= self.file && self.file <= self.number
+        (1..=self.number).contains(&self.file)
     }
 }
 
@@ -58,6 +56,7 @@ impl Content {
 
 impl Page {
     /// Whether every field is in its range, so that the page can be written.
+    #[tactic(auto, unfolding(crate::specs::Fits::fits))]
     pub fn fits(&self) -> bool
         ensures { result ≡ page_fits self.now }
     {

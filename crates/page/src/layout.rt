@@ -17,7 +17,7 @@ pub const GROUP_LIMIT: u8 = 4;
 /// An erased byte, and a byte that belongs to no field.
 pub const ONES: u8 = 0xff;
 
-/// 0 for a note, 1 for an entry, 2 for a chunk, 3 for a file that is gone.
+/// The number of what the page says, a `Kind`.
 pub const KIND: Bits = Bits { at: 16, width: 3 };
 /// The page's place in its group, from 0.
 pub const INDEX: Bits = Bits { at: 19, width: 2 };
@@ -40,6 +40,8 @@ pub const NAME_LENGTH: Bits = Bits { at: 166, width: 5 };
 /// Of a chunk: its place in the file.
 pub const CHUNK_INDEX: Bits = Bits { at: 120, width: 8 };
 
+/// The byte at which the zero count starts.
+pub const COUNT_AT: usize = 0;
 /// The byte at which an entry's name starts.
 pub const NAME_AT: usize = 22;
 /// The byte at which a chunk's bytes start.

@@ -13,6 +13,7 @@ mod decoding;
 mod encoding;
 mod fields;
 mod fitting;
+mod kinds;
 mod layout;
 mod names;
 mod tearing;
@@ -23,7 +24,7 @@ pub use decoding::{decode, page_number};
 pub use encoding::encode;
 pub use fields::{Chunk, Content, Entry, EntryKind, Header, Page, PageFault};
 pub use layout::{CHUNK_BYTES, CHUNK_LIMIT, GROUP_LIMIT, LENGTH_LIMIT, NAME_BYTES};
-pub use names::{Name, name_allowed};
+pub use names::{Name, name_allowed, same_name};
 pub use tearing::{torn_erase_only_takes_pages_away, torn_program_adds_no_other_page};
 pub use worked::worked_pages;
 

@@ -1,66 +1,48 @@
 // Names of files and directories.
-ghost use Rattle.std.specs.Prelude.{◌≡◌, ◌≤◌, ◌==◌, ◌&&◌, length, if◌then◌else◌, Some, None, Decides};
-ghost use Rattle.std.specs.Str.{bytes_eq};
+ghost use Rattle.std.specs.Prelude.{◌≡◌, ◌≤◌, length, if◌then◌else◌, Some, None, Decides};
 ghost use Rattle.page.specs.Names.{allowed, dots, is_padded, name_byte, name_bytes, name_fits, name_text, named, padded as padded_list};
-ghost use Rattle.std.specs.Cmp.Rules.{comparing};
-ghost use Rattle.std.proofs.Common.{rules};
 
 use crate::layout::NAME_BYTES;
 
-/// The first visible byte, after the blank.
-const FIRST_BYTE: u8 = 0x21;
-/// The last visible byte, before the delete.
-const LAST_BYTE: u8 = 0x7e;
-
-/// A name, in a value of one size. The places past its length hold 0, so equal names are equal values.
-#[derive(Clone, Copy, Eq, Debug)]
+/// A name, in a value of one size, since there is no heap. The places past its length hold 0, so equal names
+/// are equal values.
+#[derive(Clone, Copy, PartialEq, Eq, Debug)]
 pub struct Name {
     pub(crate) len: u8,
     pub(crate) bytes: [u8; NAME_BYTES],
 }
 
-impl PartialEq for Name {
-    ghost eq = { λ x y. (x.len == y.len) && bytes_eq x.bytes y.bytes };
-
-    ghost laws = { Prim.search (comparing, rules) };
-
-    fn eq(&self, other: &Name) -> bool
-        ensures computes { result ≡ ((self.now.len == other.now.len) && bytes_eq self.now.bytes other.now.bytes) }
-        ensures same { Decides result (self.now ≡ other.now) }
-    {
-        self.len == other.len && self.bytes == other.bytes
-    }
+/// `==` decides whether two names are one.
+pub fn same_name(a: &Name, b: &Name) -> bool
+    ensures { Decides result (a.now ≡ b.now) }
+{
+    a == b
 }
 
 fn byte_allowed(byte: u8) -> bool
     ensures { result ≡ name_byte byte }
 {
-    FIRST_BYTE <= byte && byte <= LAST_BYTE && byte != b'/'
+    byte.is_ascii_graphic() && byte != b'/'
 }
 
 fn bytes_allowed(bytes: &[u8]) -> bool
     ensures { result ≡ name_bytes bytes.now }
 {
-    for byte in bytes {
-        if !byte_allowed(*byte) {
-            return false;
-        }
-    }
-    true
+    bytes.iter().all(|byte| byte_allowed(*byte))
 }
 
 // The two names that paths keep for themselves.
 fn is_dots(bytes: &[u8]) -> bool
     ensures { result ≡ dots bytes.now }
 {
-    bytes == b".".as_slice() || bytes == b"..".as_slice()
+    matches!(bytes, b"." | b"..")
 }
 
 /// Whether these bytes are a name: 1 to 24 visible ones, none of them '/', and neither "." nor "..".
 pub fn name_allowed(bytes: &[u8]) -> bool
     ensures { result ≡ allowed bytes.now }
 {
-    1 <= bytes.len() && bytes.len() <= NAME_BYTES && bytes_allowed(bytes) && !is_dots(bytes)
+    (1..=NAME_BYTES).contains(&bytes.len()) && bytes_allowed(bytes) && !is_dots(bytes)
 }
 
 // The places of a name with these bytes.
@@ -69,7 +51,7 @@ pub(crate) fn padded(bytes: &[u8]) -> [u8; NAME_BYTES]
     ensures { result ≡ padded_list bytes.now }
 {
     let mut places = [0; NAME_BYTES];
-    places[0..bytes.len()].copy_from_slice(bytes);
+    places[..bytes.len()].copy_from_slice(bytes);
     places
 }
 
@@ -78,10 +60,7 @@ impl Name {
     pub fn new(bytes: &[u8]) -> Option<Name>
         ensures { result ≡ (if allowed bytes.now then Some (named bytes.now) else None) }
     {
-        if !name_allowed(bytes) {
-            return None;
-        }
-        Some(Name {
+        name_allowed(bytes).then(|| Name {
             len: bytes.len() as u8,
             bytes: padded(bytes),
         })
@@ -92,7 +71,7 @@ impl Name {
         ensures { result.now ≡ name_text self.now }
     {
         let len = NAME_BYTES.min(self.len as usize);
-        &self.bytes[0..len]
+        &self.bytes[..len]
     }
 
     // Whether zeros fill the places past the name's bytes.

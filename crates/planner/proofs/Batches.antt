@@ -8,7 +8,7 @@ use Rattle.planner.specs.Written.{Speaks, Silent, slot_at, ByPage, Written, Said
 use Rattle.planner.proofs.Limits.{below_one}
 use Rattle.planner.specs.declared.says.Says.{Says}
 use Rattle.planner.specs.declared.says.Says.TheVariants.{Tells, Gone}
-use Rattle.planner.specs.declared.slot.Slot.{Slot}
+use Rattle.planner.specs.Order.{Slot}
 
 pub written_none : (xs : List Slot) (pages : List Says) (b u n : ℕ) → Rising xs → Written xs pages b u n 0 xs
 written_none xs pages b u n r =

@@ -1,8 +1,10 @@
 -- The step that comes next while room is made.
-use Rattle.std.proofs.Common.{◌≡◌, ℕ, ◌+◌, ◌^◌, ◌<◌, ◌≤◌, ◌⊎◌, refl, inl, inr, arith}
-use Rattle.planner.specs.State.{Free, Lowest}
+use Rattle.std.proofs.Common.{◌≡◌, ℕ, ◌+◌, ◌^◌, ◌<◌, ◌≤◌, ◌⊎◌, refl, subst, inl, inr, arith}
+use Rattle.planner.specs.State.{State, Free, Lowest}
 use Rattle.planner.specs.Room.{Room}
-use Rattle.planner.specs.Steps.{state, Next, Turn}
+use Rattle.planner.specs.Steps.{state, SparesAre, Next, Turn}
+use Rattle.planner.specs.declared.free.Spares.{Spares}
+use Rattle.planner.specs.declared.free.Spares.TheVariants.{One, More}
 use Rattle.planner.specs.declared.steps.Step.{Step}
 use Rattle.planner.specs.declared.steps.Step.TheVariants.{Ready, Open, Copy, Spent}
 use Rattle.planner.specs.declared.head.Phase.{Phase}
@@ -74,3 +76,8 @@ module _ (t : Tables) (rest : t.phase ≡ AtRest → ⊥) where
       → ((state t).used + g ≤ (state t).per → ⊥) → Next t.phase (state t) g r
   next_one g l r turn x one part short =
       copy_next t.phase rest g r turn x one (λ e b f. part e) (bare_room g l) (λ some room. short room.left)
+
+-- a block is free, of one or more
+pub some_spare : (s : State) (p : Spares) → SparesAre s p → ((b : ℕ) × (p ≡ One b)) ⊎ ((b : ℕ) × (p ≡ More b)) → (b : ℕ) × Free s b
+some_spare s p a (inl h) = (h.0, (subst (SparesAre s) h.1 a).0)
+some_spare s p a (inr h) = (h.0, (subst (SparesAre s) h.1 a).0)

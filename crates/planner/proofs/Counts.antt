@@ -1,15 +1,21 @@
 -- However the pages of a batch are placed, they leave the same number of keys.
-use Rattle.std.proofs.Common.{◌≡◌, ℕ, zero, suc, ◌+◌, ◌*◌, ◌<◌, ◌≤◌, true, List, length, get_or, sym, refl, ap, ◌∙◌, subst, inl, inr, arith}
+use Rattle.std.proofs.Common.{◌≡◌, ℕ, zero, suc, ◌+◌, ◌*◌, ◌<◌, ◌≤◌, true, List, length, get_or, Some, sym, refl, ap, ◌∙◌, subst, inl, inr, arith}
 use native.Mathlib.Decide.{dec_lt}
 use Rattle.std.proofs.lemmas.List.{get_or_default}
 use Rattle.planner.specs.Tally.{tally}
+use Rattle.planner.specs.Commits.{WrittenBy}
 use Rattle.planner.specs.Full.{Alike}
 use Rattle.planner.specs.Order.{ranked, Rising}
-use Rattle.planner.specs.Shape.{blank}
-use Rattle.planner.specs.Slots.{Holds}
+use Rattle.planner.specs.Shape.{blank, head_of, used_of}
+use Rattle.planner.specs.Slots.{listed, Holds}
+use Rattle.planner.specs.State.{limit}
+use Rattle.planner.specs.Steps.{state}
 use Rattle.planner.specs.Written.{Speaks, slot_at, Written}
+use Rattle.planner.specs.declared.head.Head.{Head}
 use Rattle.planner.specs.declared.says.Says.{Says}
-use Rattle.planner.specs.declared.slot.Slot.{Slot}
+use Rattle.planner.specs.Order.{Slot}
+use Rattle.planner.specs.declared.slots.Slots.{Slots}
+use Rattle.planner.specs.declared.tables.Tables.{Tables}
 use Rattle.planner.proofs.Tally.{tally_marks}
 
 tally_all : (n : ℕ) → tally (λ k. true) n ≡ n
@@ -75,3 +81,21 @@ pub same_count : (xs xs' : List Slot) → Alike xs xs' → (pages : List Says) (
     → length ys ≡ length ys'
 same_count xs xs' a pages m b u n b' u' n' ys ys' w w' =
     omega (arith, no_more xs xs' a pages m b u n b' u' n' ys ys' w w', no_more xs' xs (alike_back xs xs' a) pages m b' u' n' b u n ys' ys w' w)
+
+-- wherever the pages of a batch are written, they leave as many keys
+module _ (t : Tables) (pages : List Says) (block index number : ℕ) (after : Slots) (written : Written (listed t.slots) pages block index number (length pages) (listed after)) where
+  pub count_after : (ys : List Slot) → WrittenBy t pages ys → length ys ≡ length (listed after)
+  count_after ys w =
+      same_count (listed t.slots) (listed t.slots) (alike_self (listed t.slots)) pages (length pages) (state t).head (state t).used (t.last + 1) block index number ys (listed after) w written
+
+  pub within : length (listed after) ≤ limit t.per t.blocks → (ys : List Slot) → WrittenBy t pages ys → length ys ≤ limit t.per t.blocks
+  within l ys w = omega (arith, l, count_after ys w)
+
+  pub beyond : limit t.per t.blocks < length (listed after) → (ys : List Slot) → WrittenBy t pages ys → limit t.per t.blocks < length ys
+  beyond l ys w = omega (arith, l, count_after ys w)
+
+-- the slots after the pages at a head that is there
+pub written_by : (t : Tables) (pages : List Says) (h : Head) (after : Slots) → t.head ≡ Some h → Written (listed t.slots) pages h.block h.used (t.last + 1) (length pages) (listed after)
+    → WrittenBy t pages (listed after)
+written_by t pages h after is w =
+    subst (λ o. Written (listed t.slots) pages (head_of t.blocks o) (used_of t.per o) (t.last + 1) (length pages) (listed after)) (sym is) w

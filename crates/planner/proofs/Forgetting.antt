@@ -1,106 +1,71 @@
--- The slots of other files, moved to the front one by one.
-use Rattle.std.proofs.Common.{◌≡◌, ℕ, ◌+◌, ◌<◌, ◌≤◌, List, length, get_or, take, set, sym, refl, ap, ◌∙◌, arith, length-set}
-use native.Mathlib.Decide.{ℕ_discrete}
-use Rattle.std.proofs.lemmas.List.{get_or-set_same, get_or-set_other, get_or_default, length-take-le}
-use Rattle.planner.specs.Order.{ranked, Narrow}
-use Rattle.planner.specs.Slots.{Forgets}
-use Rattle.planner.specs.declared.slot.Slot.{Slot}
-use Rattle.planner.proofs.Limits.{below_one}
+-- The slots of other files are kept.
+use Rattle.std.proofs.Common.{◌≡◌, ℕ, zero, suc, ◌<◌, ◌≤◌, Bool, true, false, cond, not, eqb, List, [], ◌∷◌, length, get_or, sym, refl, ap, ◌∙◌, subst, arith, rules, tests}
+use Rattle.std.specs.List.{filter}
+use Rattle.std.proofs.lemmas.Bool.{false≢true}
+use Rattle.std.proofs.lemmas.List.{get_or_default}
+use Rattle.planner.specs.Order.{Slot, Rising, Narrow}
 use Rattle.planner.specs.Shape.{blank}
-use Rattle.planner.proofs.Firsts.{Rises, holds_among, among_holds, rises_rising}
+use Rattle.planner.specs.Slots.{Forgets}
+use Rattle.planner.proofs.Firsts.{Among, holds_among, among_holds}
 
--- of the first i slots of xs, those of other files are the first k of ys, and the rest is as it was
-pub record Kept (xs : List Slot) (n file i : ℕ) (ys : List Slot) (k : ℕ) : Type 0 where
-  pub few : k ≤ i
-  pub long : length ys ≡ length xs
-  pub rest : (j : ℕ) → i ≤ j → get_or ys j blank ≡ get_or xs j blank
-  pub from : (j : ℕ) → j < k → (p : ℕ) × (p < i) × (get_or ys j blank ≡ get_or xs p blank) × ((get_or xs p blank).key.file ≡ file → ⊥)
-  pub all : (p : ℕ) → p < i → ((get_or xs p blank).key.file ≡ file → ⊥) → (j : ℕ) × (j < k) × (get_or ys j blank ≡ get_or xs p blank)
-  pub rising : Rises ys k
-  pub below : (j p : ℕ) → j < k → i ≤ p → p < n → ranked (get_or ys j blank) < ranked (get_or xs p blank)
+-- what passes a test stands among what passed, and nothing else does
+module _ (test : Slot → Bool) where
+  filtered : (x : Slot) (xs : List Slot) (b : Bool) → test x ≡ b → filter test (x ∷ xs) ≡ cond b (x ∷ filter test xs) (filter test xs)
+  filtered x xs b e = ap (λ c. cond c (x ∷ filter test xs) (filter test xs)) e
 
-pub kept_none : (xs : List Slot) (n file : ℕ) → Kept xs n file 0 xs 0
-kept_none xs n file =
+  one_more : (z : Slot) (zs : List Slot) (x : Slot) → Among zs x → Among (z ∷ zs) x
+  one_more z zs x a = (suc a.0, omega (arith, a.1), a.2)
+
+  passed : (xs : List Slot) (x : Slot) → Among xs x → test x ≡ true → Among (filter test xs) x
+  passed [] x a t = absurd (omega (arith, a.1))
+  passed (y ∷ ys) x (k, l, e) t = by (passed ys x) (test y) refl k l e
+    where
+      by : (Among ys x → test x ≡ true → Among (filter test ys) x) → (b : Bool) → test y ≡ b → (k : ℕ) → k < length (y ∷ ys) → get_or (y ∷ ys) k blank ≡ x → Among (filter test (y ∷ ys)) x
+      by later true s zero l e = subst (λ zs. Among zs x) (sym (filtered y ys true s)) (zero, omega arith, e)
+      by later true s (suc k) l e = subst (λ zs. Among zs x) (sym (filtered y ys true s)) (one_more y (filter test ys) x (later (k, omega (arith, l), e) t))
+      by later false s zero l e = absurd (false≢true (sym s ∙ ap test e ∙ t))
+      by later false s (suc k) l e = subst (λ zs. Among zs x) (sym (filtered y ys false s)) (later (k, omega (arith, l), e) t)
+
+  from : (xs : List Slot) (x : Slot) → Among (filter test xs) x → Among xs x × (test x ≡ true)
+  from [] x a = absurd (omega (arith, a.1))
+  from (y ∷ ys) x a = by (from ys x) (test y) refl a
+    where
+      front : test y ≡ true → Among (y ∷ filter test ys) x → (Among (filter test ys) x → Among ys x × (test x ≡ true)) → Among (y ∷ ys) x × (test x ≡ true)
+      front s (zero, l, e) later = ((zero, omega arith, e), sym (ap test e) ∙ s)
+      front s (suc k, l, e) later = let w = later (k, omega (arith, l), e) in (one_more y ys x w.0, w.1)
+
+      by : (Among (filter test ys) x → Among ys x × (test x ≡ true)) → (b : Bool) → test y ≡ b → Among (filter test (y ∷ ys)) x → Among (y ∷ ys) x × (test x ≡ true)
+      by later true s a = front s (subst (λ zs. Among zs x) (filtered y ys true s) a) later
+      by later false s a = let w = later (subst (λ zs. Among zs x) (filtered y ys false s) a) in (one_more y ys x w.0, w.1)
+
+  fewer : (xs : List Slot) → length (filter test xs) ≤ length xs
+  fewer [] = omega arith
+  fewer (y ∷ ys) = by (fewer ys) (test y) refl
+    where
+      by : length (filter test ys) ≤ length ys → (b : Bool) → test y ≡ b → length (filter test (y ∷ ys)) ≤ length (y ∷ ys)
+      by later true s = omega (arith, later, ap length (filtered y ys true s))
+      by later false s = omega (arith, later, ap length (filtered y ys false s))
+
+-- whether the slot is of another file
+abbrev pub elsewhere : ℕ → Slot → Bool
+elsewhere file x = not (eqb x.key.file file)
+
+pub kept_forgets : (xs : List Slot) (file : ℕ) (ys : List Slot) → Rising ys → ys ≡ filter (elsewhere file) xs → Forgets xs file ys
+kept_forgets xs file ys rises is =
     record {
-      few = omega arith;
-      long = refl;
-      rest = λ j l. refl;
-      from = λ j l. absurd (omega arith);
-      all = λ p l. absurd (omega arith);
-      rising = λ a b l m. absurd (omega arith);
-      below = λ j p l. absurd (omega arith);
-    }
-
-module _ (xs : List Slot) (n file i : ℕ) (ys : List Slot) (k : ℕ) (le : n ≤ length xs) (l : i < n) (r : Rises xs n) (w : Kept xs n file i ys k) where
-  pub kept_skip : (get_or ys i blank).key.file ≡ file → Kept xs n file (i + 1) ys k
-  kept_skip gone =
-      record {
-        few = omega (arith, w.few);
-        long = w.long;
-        rest = λ j h. w.rest j (omega arith);
-        from = λ j h. let (p, m, e, ne) = w.from j h in (p, omega arith, e, ne);
-        all = λ p h ne. elim (ℕ_discrete p i) [
-          | yes q ↦ absurd (ne (ap (λ t. (get_or xs t blank).key.file) q ∙ ap (λ (x : Slot). x.key.file) (sym (w.rest i (omega arith))) ∙ gone))
-          | no off ↦ w.all p (below_one p i h off) ne
-        ];
-        rising = w.rising;
-        below = λ j p h m. w.below j p h (omega arith);
-      }
-
-  abbrev zs : List Slot
-  zs = set ys k (get_or ys i blank)
-
-  at : get_or zs k blank ≡ get_or xs i blank
-  at = get_or-set_same ys k (get_or ys i blank) blank (omega (arith, w.few, w.long)) ∙ w.rest i (omega arith)
-
-  off : (j : ℕ) → (j ≡ k → ⊥) → get_or zs j blank ≡ get_or ys j blank
-  off j ne = get_or-set_other ys k j (get_or ys i blank) blank ne
-
-  rank_below : (j : ℕ) → j < k → ranked (get_or zs j blank) < ranked (get_or xs i blank)
-  rank_below j h = omega (arith, w.below j i h (omega arith) l, ap ranked (off j (λ e. omega arith)))
-
-  rises : (a b : ℕ) → a < b → b < k + 1 → Dec (b ≡ k) → ranked (get_or zs a blank) < ranked (get_or zs b blank)
-  rises a b lt h (yes e) = omega (arith, rank_below a (omega arith), ap ranked at, ap (λ t. ranked (get_or zs t blank)) e)
-  rises a b lt h (no ne) = omega (arith, w.rising a b lt (below_one b k h ne), ap ranked (off a (λ e. omega arith)), ap ranked (off b ne))
-
-  pub kept_more : ((get_or ys i blank).key.file ≡ file → ⊥) → Kept xs n file (i + 1) zs (k + 1)
-  kept_more other =
-      record {
-        few = omega (arith, w.few);
-        long = length-set ys k (get_or ys i blank) ∙ w.long;
-        rest = λ j h. off j (λ e. omega (arith, w.few)) ∙ w.rest j (omega arith);
-        from = λ j h. elim (ℕ_discrete j k) [
-          | yes e ↦ (i, omega arith, ap (λ t. get_or zs t blank) e ∙ at, λ q. other (ap (λ (x : Slot). x.key.file) (w.rest i (omega arith)) ∙ q))
-          | no ne ↦ (let (p, m, e, nf) = w.from j (below_one j k h ne) in (p, omega arith, off j ne ∙ e, nf))
-        ];
-        all = λ p h nf. elim (ℕ_discrete p i) [
-          | yes q ↦ (k, omega arith, at ∙ ap (λ t. get_or xs t blank) (sym q))
-          | no ne ↦ (let (j, m, e) = w.all p (below_one p i h ne) nf in (j, omega arith, off j (λ q. omega arith) ∙ e))
-        ];
-        rising = λ a b lt h. rises a b lt h (ℕ_discrete b k);
-        below = λ j p h m v. elim (ℕ_discrete j k) [
-          | yes e ↦ omega (arith, r i p (omega arith) v, ap ranked at, ap (λ t. ranked (get_or zs t blank)) e)
-          | no ne ↦ omega (arith, w.below j p (below_one j k h ne) (omega arith) v, ap ranked (off j ne))
-        ];
-      }
-
-pub kept_all : (xs : List Slot) (n file : ℕ) (ys : List Slot) (k : ℕ) → n ≤ length xs → Kept xs n file n ys k → Forgets (take n xs) file (take k ys)
-kept_all xs n file ys k le w =
-    record {
-      rising = rises_rising ys k short w.rising;
-      kept = λ x h nf.
-          let (p, m, e) = holds_among xs n le x h in
-          let (j, v, q) = w.all p m (λ u. nf (ap (λ (y : Slot). y.key.file) (sym e) ∙ u)) in
-          among_holds ys k short x (j, v, q ∙ e);
+      rising = rises;
+      kept = λ x h nf. among_holds ys x (subst (λ zs. Among zs x) (sym is) (passed (elsewhere file) xs x (holds_among xs x h) (other x nf)));
       only = λ x h.
-          let (j, m, e) = holds_among ys k short x h in
-          let (p, v, q, nf) = w.from j m in
-          (among_holds xs n le x (p, v, sym q ∙ e), λ u. nf (ap (λ (y : Slot). y.key.file) (sym q ∙ e) ∙ u));
-      short = omega (arith, w.few, length-take-le n xs le, length-take-le k ys short);
+          let w = from (elsewhere file) xs x (subst (λ zs. Among zs x) is (holds_among ys x h)) in
+          (among_holds xs x w.0, away x w.1);
+      short = omega (arith, ap length is, fewer (elsewhere file) xs);
     }
   where
-    short : k ≤ length ys
-    short = omega (arith, w.few, w.long)
+    other : (x : Slot) → (x.key.file ≡ file → ⊥) → elsewhere file x ≡ true
+    other x ne = search (rules, tests)
+
+    away : (x : Slot) → elsewhere file x ≡ true → x.key.file ≡ file → ⊥
+    away x t = search (rules, tests)
 
 -- what stays is as narrow as before
 pub forgets_narrow : (xs ys : List Slot) (file : ℕ) → Forgets xs file ys → Narrow xs → Narrow ys

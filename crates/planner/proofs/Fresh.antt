@@ -1,8 +1,9 @@
 -- The tables after a format are sound, and the second block is free.
-use Rattle.std.proofs.Common.{◌≡◌, ℕ, zero, suc, ◌≤◌, ◌∷◌, get_or, replicate, Some, refl, arith}
+use Rattle.std.proofs.Common.{◌≡◌, ℕ, zero, suc, ◌≤◌, ◌∷◌, length, get_or, replicate, Some, refl, arith}
 use Rattle.planner.specs.State.{State, Sound, Free}
 use Rattle.planner.specs.Formats.{Sizes}
 use Rattle.planner.specs.Shape.{shape}
+use Rattle.planner.specs.Slots.{listed}
 use Rattle.planner.specs.declared.slots.Slots.{Slots}
 
 zeros : (n k : ℕ) → ◌≡◌ {A = ℕ} (get_or (replicate n 0) k 0) 0
@@ -14,7 +15,7 @@ fresh_high : (n k : ℕ) → get_or (1 ∷ replicate n 0) k 0 ≤ 1
 fresh_high n zero = omega arith
 fresh_high n (suc k) = omega (arith, zeros n k)
 
-module _ (slots : Slots) (per blocks : ℕ) (none : slots.len ≡ 0) (sizes : Sizes per blocks) where
+module _ (slots : Slots) (per blocks : ℕ) (none : length (listed slots) ≡ 0) (sizes : Sizes per blocks) where
   abbrev fresh : State
   fresh = shape slots (1 ∷ replicate 15 0) per blocks 1 1 (Some (record { block = 0; used = 1 }))
 

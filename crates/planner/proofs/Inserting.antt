@@ -6,7 +6,7 @@ use Rattle.lookup.specs.Sorts.{InPlace}
 use Rattle.lookup.proofs.Insertion.{At, before, itself, later, long, which, stays, stands, rising_inserted}
 use Rattle.planner.specs.Order.{ranked, Rising, Narrow}
 use Rattle.planner.specs.Slots.{Holds, Put}
-use Rattle.planner.specs.declared.slot.Slot.{Slot}
+use Rattle.planner.specs.Order.{Slot}
 use Rattle.planner.specs.Shape.{blank}
 
 module _ (xs : List Slot) (new : Slot) (ys : List Slot) (p : InPlace ranked xs new ys) (r : Rising xs) (absent : (k : ℕ) (d : Slot) → k < length xs → (get_or xs k d).key ≡ new.key → ⊥) where

@@ -1,12 +1,13 @@
 -- What is judged of a scan is what makes its tables sound.
-use Rattle.std.proofs.Common.{ℕ, ◌<◌, ◌≤◌, refl, arith}
-use Rattle.planner.specs.State.{Sound}
-use Rattle.planner.specs.Mountable.{found, Sized, Placed, Agree}
+use Rattle.std.proofs.Common.{ℕ, ◌<◌, ◌≤◌, length, Bool, Decides, refl, arith}
+use Rattle.planner.specs.State.{Sound, Free}
+use Rattle.planner.specs.Mountable.{found, Sized, Placed, Agree, Mountable}
+use Rattle.planner.specs.Slots.{listed}
 use Rattle.planner.proofs.Limits.{limit_most}
 use Rattle.planner.specs.declared.scanned.Scanned.{Scanned}
 
-pub judged_sound : (x : Scanned) → Sized (found x) → ((b : ℕ) → b < x.blocks → (found x).high b ≤ x.last) → ((k : ℕ) → k < x.slots.len → Placed (found x) k)
-    → ((j k : ℕ) → j < x.slots.len → k < x.slots.len → Agree (found x) j k) → Sound (found x)
+pub judged_sound : (x : Scanned) → Sized (found x) → ((b : ℕ) → b < x.blocks → (found x).high b ≤ x.last) → ((k : ℕ) → k < length (listed x.slots) → Placed (found x) k)
+    → ((j : ℕ) → j < length (listed x.slots) → (k : ℕ) → k < length (listed x.slots) → Agree (found x) j k) → Sound (found x)
 judged_sound x sized last placed agree =
     record {
       wide = sized.wide;
@@ -14,11 +15,11 @@ judged_sound x sized last placed agree =
       room = sized.room;
       inside = λ k l. (placed k l).inside;
       fit = λ k l. (placed k l).fit;
-      apart = λ j k l m. (agree j k l m).apart;
-      unlike = λ j k l m. (agree j k l m).unlike;
+      apart = λ j k l m. (agree j l k m).apart;
+      unlike = λ j k l m. (agree j l k m).unlike;
       held = λ k l. (placed k l).held;
       counted = λ k l. (placed k l).counted;
-      order = λ j k l m. (agree j k l m).order;
+      order = λ j k l m. (agree j l k m).order;
       highest = last;
       some = sized.some;
       low = sized.low;
@@ -28,5 +29,10 @@ judged_sound x sized last placed agree =
       newest = λ h l. absurd (omega (arith, l));
     }
 
-pub judged_few : (x : Scanned) → Sound (found x) → x.per_block ≤ 16 → x.blocks ≤ 16 → x.slots.len ≤ 208
+-- all that is asked of a scan, in its order
+pub judged : (x : Scanned) → Sized (found x) → ((b : ℕ) → b < x.blocks → (found x).high b ≤ x.last) → ((k : ℕ) → k < length (listed x.slots) → Placed (found x) k)
+    → ((j : ℕ) → j < length (listed x.slots) → (k : ℕ) → k < length (listed x.slots) → Agree (found x) j k) → (r : Bool) → Decides r ((b : ℕ) × Free (found x) b) → Decides r (Mountable (found x))
+judged x sized last placed agree r free = (λ e. (judged_sound x sized last placed agree, sized.slim, sized.small, free.0 e), λ m. free.1 m.3)
+
+pub judged_few : (x : Scanned) → Sound (found x) → x.per_block ≤ 16 → x.blocks ≤ 16 → length (listed x.slots) ≤ 208
 judged_few x w l m = omega (arith, w.room, limit_most x.per_block x.blocks l m)

@@ -6,9 +6,12 @@ pub mod OpenMaking
 pub mod CopyMaking
 pub mod Batching
 pub mod Mounting
+pub mod Slotted
+pub mod Least
 pub mod Firsts
 pub mod Replacing
 pub mod Inserting
+pub mod Putting
 pub mod Forgetting
 pub mod Batches
 pub mod Unique

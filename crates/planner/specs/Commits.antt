@@ -1,14 +1,16 @@
 -- What a batch does to the tables.
-use Rattle.std.specs.Prelude.{◌≡◌, ℕ, ◌+◌, ◌^◌, ◌<◌, ◌≤◌, Bool, true, false, List, length}
+use Rattle.std.specs.Prelude.{◌≡◌, ℕ, ◌+◌, ◌^◌, ◌<◌, ◌≤◌, Ok, Err, Result, List, length}
 use Rattle.planner.specs.State.{Free, limit}
 use Rattle.planner.specs.Batches.{BatchFloor, Batched}
 use Rattle.planner.specs.Room.{Room}
 use Rattle.planner.specs.Slots.{listed}
 use Rattle.planner.specs.Steps.{state}
 use Rattle.planner.specs.Written.{Written}
+use Rattle.planner.specs.declared.faults.BatchFault.{BatchFault}
+use Rattle.planner.specs.declared.faults.BatchFault.TheVariants.{Size, Spent, NoRoom, Full}
 use Rattle.planner.specs.declared.head.Phase.TheVariants.{AtRest}
 use Rattle.planner.specs.declared.says.Says.{Says}
-use Rattle.planner.specs.declared.slot.Slot.{Slot}
+use Rattle.planner.specs.Order.{Slot}
 use Rattle.planner.specs.declared.tables.Tables.{Tables}
 
 -- the slots after the pages, one after another from the head's next page and the next number on
@@ -31,7 +33,20 @@ pub record Commits (t : Tables) (pages : List Says) (u : Tables) : Type 0 where
   pub free : (b : ℕ) × Free (state u) b
   pub rest : u.phase ≡ AtRest
 
+-- why a batch is refused: the first of these that holds
+abbrev pub Refused : Tables → List Says → BatchFault → Type 0
+Refused t pages Size = 1 ≤ length pages → length pages ≤ 4 → ⊥
+Refused t pages Spent = (1 ≤ length pages) × (length pages ≤ 4) × (2 ^ 32 ≤ t.last + 4)
+Refused t pages NoRoom = (1 ≤ length pages) × (length pages ≤ 4) × (t.last + 4 < 2 ^ 32) × (Room (state t) (length pages) → ⊥)
+Refused t pages Full = (1 ≤ length pages) × (length pages ≤ 4) × (t.last + 4 < 2 ^ 32) × Room (state t) (length pages)
+    × ((ys : List Slot) → WrittenBy t pages ys → limit t.per t.blocks < length ys)
+
 -- the batch is written exactly where it can be, else nothing changes
-abbrev pub Batches : Tables → List Says → Bool → Tables → Type 0
-Batches t pages true u = CanBatch t pages × Commits t pages u
-Batches t pages false u = (u ≡ t) × (CanBatch t pages → ⊥)
+abbrev pub Batches : Tables → List Says → Result (Unit {0}) BatchFault → Tables → Type 0
+Batches t pages (Ok _) u = CanBatch t pages × Commits t pages u
+Batches t pages (Err why) u = (u ≡ t) × (CanBatch t pages → ⊥) × Refused t pages why
+
+-- pages and numbers allow a batch
+abbrev pub MayWrite : Tables → List Says → Result (Unit {0}) BatchFault → Type 0
+MayWrite t pages (Ok _) = (1 ≤ length pages) × (length pages ≤ 4) × Room (state t) (length pages) × (t.last + 4 < 2 ^ 32)
+MayWrite t pages (Err why) = (CanBatch t pages → ⊥) × Refused t pages why

@@ -4,7 +4,7 @@ use Rattle.planner.specs.State.{limit}
 use Rattle.planner.specs.Slots.{listed}
 use Rattle.planner.specs.Written.{Written}
 use Rattle.planner.specs.declared.says.Says.{Says}
-use Rattle.planner.specs.declared.slot.Slot.{Slot}
+use Rattle.planner.specs.Order.{Slot}
 use Rattle.planner.specs.declared.tables.Tables.{Tables}
 
 -- the same keys in the same order, told by whatever pages

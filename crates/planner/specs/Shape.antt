@@ -1,8 +1,9 @@
 -- The state that tables stand for.
-use Rattle.std.specs.Prelude.{ℕ, ◌≤◌, List, Some, None, Option, slice_index, slice_index_or}
+use Rattle.std.specs.Prelude.{ℕ, ◌≤◌, List, length, Some, None, Option, slice_index, slice_index_or}
 use Rattle.planner.specs.State.{State, Free}
 use Rattle.planner.specs.Making.{Making}
-use Rattle.planner.specs.declared.slot.Slot.{Slot}
+use Rattle.planner.specs.Order.{Slot}
+use Rattle.planner.specs.Slots.{listed}
 use Rattle.planner.specs.declared.slots.Slots.{Slots}
 use Rattle.planner.specs.declared.head.Head.{Head}
 use Rattle.planner.specs.declared.head.Phase.{Phase}
@@ -10,7 +11,7 @@ use Rattle.planner.specs.declared.head.Phase.TheVariants.{AtRest, MakingRoom}
 
 -- what a place past the end reads as
 abbrev pub blank : Slot
-blank = record { key = record { file = 0; part = 0 }; block = 0; index = 0; number = 0 }
+blank = record { key = record { file = 0; part = 0 }; place = record { block = 0; index = 0 }; number = 0 }
 
 -- no head is past the last block, with all pages used
 abbrev pub head_of : ℕ → Option Head → ℕ
@@ -26,10 +27,10 @@ shape slots high per blocks floor last head =
     record {
       per = per;
       blocks = blocks;
-      count = slots.len;
-      block = λ k. (slice_index_or slots.items k blank).block;
-      index = λ k. (slice_index_or slots.items k blank).index;
-      number = λ k. (slice_index_or slots.items k blank).number;
+      count = length (listed slots);
+      block = λ k. (slice_index_or (listed slots) k blank).place.block;
+      index = λ k. (slice_index_or (listed slots) k blank).place.index;
+      number = λ k. (slice_index_or (listed slots) k blank).number;
       high = λ b. slice_index high b;
       floor = floor;
       last = last;

@@ -1,12 +1,14 @@
 -- What the slots hold, and how a key is told or forgotten.
-use Rattle.std.specs.Prelude.{◌≡◌, ℕ, ◌+◌, ◌<◌, ◌≤◌, Bool, true, false, ◌⊎◌, List, length, take, ◌≢◌, slice_index_or}
-use Rattle.planner.specs.Order.{Rising}
-use Rattle.planner.specs.declared.slot.Slot.{Slot}
+use Rattle.std.specs.Prelude.{◌≡◌, ℕ, ◌+◌, ◌<◌, ◌≤◌, Ok, Err, Result, ◌⊎◌, List, length, ◌≢◌, slice_index_or}
+use Rattle.lookup.specs.Rows.{rows}
+use Rattle.lookup.specs.declared.sorted.Unplaced.{Unplaced}
+use Rattle.lookup.specs.declared.sorted.Unplaced.TheVariants.{Taken, Full}
+use Rattle.planner.specs.Order.{Slot, Rising}
 use Rattle.planner.specs.declared.slots.Slots.{Slots}
 
 -- the slots in use
 abbrev pub listed : Slots → List Slot
-listed s = take s.len s.items
+listed s = rows s.table
 
 -- x is one of the slots
 abbrev pub Holds : List Slot → Slot → Type 0
@@ -21,9 +23,10 @@ pub record Put (xs : List Slot) (new : Slot) (ys : List Slot) : Type 0 where
   pub long : length ys ≤ length xs + 1
 
 -- the new slot is put, or the key is new and all 212 places are taken
-abbrev pub Puts : List Slot → Slot → Bool → List Slot → Type 0
-Puts xs new true ys = Put xs new ys
-Puts xs new false ys = (ys ≡ xs) × (length xs ≡ 212) × ((x : Slot) → Holds xs x → x.key ≢ new.key)
+abbrev pub Puts : List Slot → Slot → Result (Unit {0}) Unplaced → List Slot → Type 0
+Puts xs new (Ok _) ys = Put xs new ys
+Puts xs new (Err Taken) ys = ⊥
+Puts xs new (Err Full) ys = (ys ≡ xs) × (length xs ≡ 212) × ((x : Slot) → Holds xs x → x.key ≢ new.key)
 
 -- the keys of the file are gone, and all others are told as before
 pub record Forgets (xs : List Slot) (file : ℕ) (ys : List Slot) : Type 0 where

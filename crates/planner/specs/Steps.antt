@@ -1,8 +1,10 @@
 -- What comes next while room is made, and what a step does to the tables.
-use Rattle.std.specs.Prelude.{◌≡◌, ℕ, ◌+◌, ◌*◌, ◌^◌, ◌<◌, ◌≤◌, cond, ◌⊎◌, ◌≢◌, nat_lt, slice_index_or}
+use Rattle.std.specs.Prelude.{◌≡◌, ℕ, ◌+◌, ◌*◌, ◌^◌, ◌<◌, ◌≤◌, cond, length, ◌⊎◌, ◌≢◌, nat_lt, slice_index_or}
+use Rattle.object.specs.declared.key.Key.{Key}
 use Rattle.planner.specs.State.{State, Free, Lowest, old}
 use Rattle.planner.specs.Moves.{Carries}
 use Rattle.planner.specs.Room.{Room}
+use Rattle.planner.specs.Slots.{listed}
 use Rattle.planner.specs.Shape.{shape, blank, spent_above}
 use Rattle.planner.specs.declared.head.Phase.{Phase}
 use Rattle.planner.specs.declared.head.Phase.TheVariants.{AtRest, MakingRoom}
@@ -15,6 +17,11 @@ use Rattle.planner.specs.declared.tables.Tables.{Tables}
 -- the state of the tables
 abbrev pub state : Tables → State
 state t = shape t.slots t.high t.per t.blocks t.floor t.last t.head
+
+-- f is the lowest number that tells another key than this one
+pub record LowestBut (t : Tables) (key : Key) (f : ℕ) : Type 0 where
+  pub below : (k : ℕ) → k < length (listed t.slots) → ((slice_index_or (listed t.slots) k blank).key ≢ key) → f ≤ (state t).number k
+  pub some : (k : ℕ) × (k < length (listed t.slots)) × ((slice_index_or (listed t.slots) k blank).key ≢ key) × (f ≡ (state t).number k)
 
 -- another block is free too
 abbrev pub Another : State → ℕ → Type 0
@@ -94,5 +101,5 @@ pub record Advances (t : Tables) (g : ℕ) (u : Tables) : Type 0 where
 pub record SameKeys (t u : Tables) : Type 0 where
   pub per : u.per ≡ t.per
   pub blocks : u.blocks ≡ t.blocks
-  pub count : u.slots.len ≡ t.slots.len
-  pub keys : (k : ℕ) → k < t.slots.len → (slice_index_or u.slots.items k blank).key ≡ (slice_index_or t.slots.items k blank).key
+  pub count : length (listed u.slots) ≡ length (listed t.slots)
+  pub keys : (k : ℕ) → k < length (listed t.slots) → (slice_index_or (listed u.slots) k blank).key ≡ (slice_index_or (listed t.slots) k blank).key

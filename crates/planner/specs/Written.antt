@@ -5,7 +5,7 @@ use Rattle.planner.specs.Order.{Rising}
 use Rattle.planner.specs.Slots.{Holds, Put, Forgets}
 use Rattle.planner.specs.declared.says.Says.{Says}
 use Rattle.planner.specs.declared.says.Says.TheVariants.{Tells, Gone}
-use Rattle.planner.specs.declared.slot.Slot.{Slot}
+use Rattle.planner.specs.Order.{Slot}
 
 -- the page speaks to the key: it tells it, or says that its file is gone
 abbrev pub Speaks : Says → Key → Type 0
@@ -18,7 +18,7 @@ Silent pages i m k = (j : ℕ) (d : Says) → i ≤ j → j < m → Speaks (slic
 
 -- the slot of a key that is told by the page j, where page 0 stands at that index of the block with that number
 abbrev pub slot_at : ℕ → ℕ → ℕ → ℕ → Key → Slot
-slot_at block index number j k = record { key = k; block = block; index = index + j; number = number + j }
+slot_at block index number j k = record { key = k; place = record { block = block; index = index + j }; number = number + j }
 
 -- x is told by the page j, and no later page speaks to its key
 pub record ByPage (pages : List Says) (block index number m : ℕ) (x : Slot) (j : ℕ) : Type 0 where
@@ -38,5 +38,5 @@ pub record Written (xs : List Slot) (pages : List Says) (block index number m : 
 
 -- the slots xs after one page
 abbrev pub Said : List Slot → Says → ℕ → ℕ → ℕ → List Slot → Type 0
-Said xs (Tells k) block index number ys = Put xs (record { key = k; block = block; index = index; number = number }) ys
+Said xs (Tells k) block index number ys = Put xs (record { key = k; place = record { block = block; index = index }; number = number }) ys
 Said xs (Gone file) block index number ys = Forgets xs file ys

@@ -7,6 +7,7 @@ ghost use Rattle.planner.specs.Steps.{state, MayOpen, MayCopy, PhaseAfter, Advan
 
 use crate::free::Spares;
 use crate::head::{Head, Phase};
+use crate::slot::Place;
 use crate::tables::Tables;
 
 impl Tables {
@@ -50,7 +51,11 @@ impl Tables {
     {
         let Some(head) = self.head else { unreachable() };
         self.last += 1;
-        self.slots.move_to(slot, head.block, head.used, self.last);
+        let place = Place {
+            block: head.block,
+            index: head.used,
+        };
+        self.slots.move_to(slot, place, self.last);
         self.high[head.block as usize] = self.last;
         self.floor = floor;
         self.head = Some(Head {

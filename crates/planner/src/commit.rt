@@ -1,7 +1,7 @@
 // A batch is written into the room made for it.
 ghost use Rattle.std.specs.Prelude.{◌≡◌, ℕ, ◌+◌, ◌^◌, ◌<◌, ◌≤◌, length, Some, Decides};
 ghost use Rattle.planner.specs.Batches.{BatchFloor};
-ghost use Rattle.planner.specs.Commits.{Batches, Commits};
+ghost use Rattle.planner.specs.Commits.{Batches, Commits, MayWrite};
 ghost use Rattle.planner.specs.Full.{FullAfter};
 ghost use Rattle.planner.specs.Room.{Room};
 ghost use Rattle.planner.specs.Slots.{listed};
@@ -9,7 +9,8 @@ ghost use Rattle.planner.specs.State.{limit};
 ghost use Rattle.planner.specs.Steps.{state};
 ghost use Rattle.planner.specs.Written.{Written};
 
-use crate::batch::{BATCH_PAGES, written};
+use crate::batch::{BATCH_PAGES, is_group, written};
+use crate::faults::BatchFault;
 use crate::free::Spares;
 use crate::head::{Head, Phase};
 use crate::says::Says;
@@ -24,27 +25,24 @@ impl Tables {
     pub fn has_room(&self, g: usize) -> bool
         ensures { 1 ≤ g → Decides result (Room (state self.now) g) }
     {
-        if !self.has_left(g) {
-            return false;
-        }
-        if self.slots.len == 0 {
-            return true;
-        }
-        match self.spares() {
-            Spares::Nothing => false,
-            Spares::One(_) => true,
-            Spares::More(_) => true,
-        }
+        self.has_left(g)
+            && (self.slots.len() == 0 || matches!(self.spares(), Spares::One(_) | Spares::More(_)))
     }
 
-    // Whether a batch of `g` pages can be written, as far as pages and numbers go.
-    fn may_write(&self, g: usize) -> bool
-        ensures { Decides result ((1 ≤ g) × (g ≤ 4) × Room (state self.now) g × (self.now.last + 4 < 2 ^ 32)) }
+    // Whether a batch can be written, as far as pages and numbers go.
+    fn may_write(&self, pages: &[Says]) -> Result<(), BatchFault>
+        ensures { MayWrite self.now pages.now result }
     {
-        if g == 0 || g > BATCH_PAGES || self.last > LAST_BEFORE_BATCH {
-            return false;
+        if !is_group(pages.len()) {
+            return Err(BatchFault::Size);
         }
-        self.has_room(g)
+        if self.last > LAST_BEFORE_BATCH {
+            return Err(BatchFault::Spent);
+        }
+        if !self.has_room(pages.len()) {
+            return Err(BatchFault::NoRoom);
+        }
+        Ok(())
     }
 
     /// Whether a batch of up to four pages would leave more keys than the limit.
@@ -56,7 +54,7 @@ impl Tables {
         }
         // Which pages are written where does not change how many keys there are.
         let after = written(self.slots, pages, Head { block: 0, used: 0 }, 0);
-        after.len > self.limit()
+        after.len() > self.limit()
     }
 
     // The pages are written, and these are the slots after them.
@@ -66,7 +64,7 @@ impl Tables {
         requires room { Room (state self.old) (length pages.now) }
         requires fits { self.old.last + length pages.now < 2 ^ 32 }
         requires floor { BatchFloor (state self.old) floor }
-        requires limited { after.len ≤ limit self.old.per self.old.blocks }
+        requires limited { length (listed after) ≤ limit self.old.per self.old.blocks }
         requires written { Written (listed self.old.slots) pages.now head.block head.used (self.old.last + 1) (length pages.now) (listed after) }
         ensures { Commits self.old pages.now self.new }
     {
@@ -81,25 +79,19 @@ impl Tables {
         self.phase = Phase::AtRest;
     }
 
-    /// The pages of a batch were written to the head, one after another with the next numbers and the batch's floor. False, and
-    /// nothing changes, where there is no room for them or too many keys would be left.
-    pub fn batch(&mut self, pages: &[Says]) -> bool
+    /// The pages of a batch were written to the head, one after another with the next numbers and the batch's floor. Where that
+    /// is refused, nothing changes.
+    pub fn batch(&mut self, pages: &[Says]) -> Result<(), BatchFault>
         ensures { Batches self.old pages.now result self.new }
     {
-        if !self.may_write(pages.len()) {
-            return false;
-        }
-        let Some(head) = self.head else {
-            return false;
-        };
-        let Some(floor) = self.batch_floor() else {
-            return false;
-        };
+        self.may_write(pages)?;
+        let head = self.head.ok_or(BatchFault::NoRoom)?;
+        let floor = self.batch_floor().ok_or(BatchFault::Spent)?;
         let after = written(self.slots, pages, head, self.last);
-        if after.len > self.limit() {
-            return false;
+        if after.len() > self.limit() {
+            return Err(BatchFault::Full);
         }
         self.commit(pages, head, after, floor);
-        true
+        Ok(())
     }
 }

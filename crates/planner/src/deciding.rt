@@ -3,6 +3,7 @@ ghost use Rattle.std.specs.Prelude.{◌≡◌, ℕ, ◌+◌, ◌^◌, ◌<◌, �
 ghost use Rattle.planner.specs.Shape.{spent_above};
 ghost use Rattle.planner.specs.Steps.{state, Next, Turn};
 
+use crate::batch::is_group;
 use crate::free::Spares;
 use crate::head::Phase;
 use crate::numbers::SPENT_ABOVE;
@@ -56,23 +57,11 @@ impl Tables {
         ensures { Next self.now.phase (state self.now) g result }
     {
         match self.spares() {
-            Spares::More(block) => {
-                if self.has_left(g) {
-                    Step::Ready
-                } else {
-                    Step::Open { block }
-                }
-            }
-            Spares::One(block) => {
-                if self.has_left(g) {
-                    Step::Ready
-                } else if self.used() == self.per {
-                    Step::Open { block }
-                } else {
-                    self.copy_step()
-                }
-            }
             Spares::Nothing => self.copy_step(),
+            Spares::One(_) | Spares::More(_) if self.has_left(g) => Step::Ready,
+            Spares::More(block) => Step::Open { block },
+            Spares::One(block) if self.used() == self.per => Step::Open { block },
+            Spares::One(_) => self.copy_step(),
         }
     }
 
@@ -80,7 +69,7 @@ impl Tables {
     pub fn next_step(&self, g: usize) -> Step
         ensures { 1 ≤ g → g ≤ 4 → Next self.now.phase (state self.now) g result }
     {
-        if g == 0 || g > 4 {
+        if !is_group(g) {
             return Step::Ready;
         }
         match self.phase {

@@ -2,6 +2,7 @@
 ghost use Rattle.planner.specs.Formats.{Formats};
 
 use crate::head::{Head, Phase};
+use crate::sizes::{MOST_BLOCKS, are_sizes};
 use crate::slots::Slots;
 use crate::tables::Tables;
 
@@ -11,13 +12,10 @@ impl Tables {
     pub fn new(per_block: u8, blocks: u8) -> Option<Tables>
         ensures { Formats per_block blocks result }
     {
-        if per_block < 4 || per_block > 16 {
+        if !are_sizes(per_block, blocks) {
             return None;
         }
-        if blocks < 4 || blocks > 16 {
-            return None;
-        }
-        let mut high = [0; 16];
+        let mut high = [0; MOST_BLOCKS];
         high[0] = 1;
         Some(Tables {
             slots: Slots::new(),

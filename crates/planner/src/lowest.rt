@@ -1,78 +1,59 @@
 // The lowest numbers, and the floors that follow from them.
-ghost use Rattle.std.specs.Prelude.{◌≡◌, ℕ, ◌+◌, ◌^◌, ◌<◌, ◌≤◌, MatchOption, ◌≢◌};
+ghost use Rattle.std.specs.Prelude.{◌≡◌, ℕ, ◌+◌, ◌^◌, ◌<◌, ◌≤◌, length, MatchOption, Decides, ◌≢◌, slice_index_or};
+ghost use Rattle.planner.specs.Slots.{listed};
+ghost use Rattle.planner.specs.Shape.{blank};
 ghost use Rattle.planner.specs.State.{Lowest};
 ghost use Rattle.planner.specs.Moves.{Carries};
-ghost use Rattle.planner.specs.Steps.{state};
+ghost use Rattle.planner.specs.Steps.{state, LowestBut};
 
+use crate::slot::Slot;
 use crate::tables::Tables;
+
+// Where the lowest number is.
+fn lowest_of(slots: &[Slot]) -> Option<usize>
+    ensures { MatchOption result (length slots.now ≡ 0) (λ i. (i < length slots.now) × ((k : ℕ) → k < length slots.now → (slice_index_or slots.now i blank).number ≤ (slice_index_or slots.now k blank).number)) }
+{
+    let slots = slots.iter().enumerate();
+    slots.min_by_key(|(_, slot)| slot.number).map(|(k, _)| k)
+}
 
 impl Tables {
     // The key with the lowest number.
     pub(crate) fn lowest(&self) -> Option<usize>
-        ensures { MatchOption result (self.now.slots.len ≡ 0) (λ i. Lowest (state self.now) i) }
+        ensures { MatchOption result (length (listed self.now.slots) ≡ 0) (λ i. Lowest (state self.now) i) }
     {
-        if self.slots.len == 0 {
-            return None;
-        }
-        let mut best = 0;
-        for k in 0..self.slots.len {
-            if self.slots.items[k].number < self.slots.items[best].number {
-                best = k;
-            }
-        }
-        Some(best)
+        lowest_of(self.slots.as_slice())
     }
 
-    // Another key in the same block.
-    fn mate(&self, i: usize) -> Option<usize>
-        requires { i < self.now.slots.len }
-        ensures { MatchOption result ((k : ℕ) → k < self.now.slots.len → (k ≢ i) → (state self.now).block k ≢ (state self.now).block i) (λ k. (k < self.now.slots.len) × (k ≢ i) × ((state self.now).block k ≡ (state self.now).block i)) }
+    // Whether another key lies in the slot's block.
+    fn is_shared(&self, slot: &Slot) -> bool
+        ensures { Decides result ((k : ℕ) × (k < length (listed self.now.slots)) × (((slice_index_or (listed self.now.slots) k blank).key ≢ slot.now.key) × ((state self.now).block k ≡ slot.now.place.block))) }
     {
-        let home = self.slots.items[i].block;
-        for k in 0..self.slots.len {
-            if k != i && self.slots.items[k].block == home {
-                return Some(k);
-            }
-        }
-        None
+        let mut slots = self.slots.as_slice().iter();
+        slots.any(|other| other.key != slot.key && other.place.block == slot.place.block)
     }
 
-    // The key with the lowest number of those but i, or i where there is no other.
-    fn lowest_but(&self, i: usize) -> usize
-        requires { i < self.now.slots.len }
-        ensures real { result < self.now.slots.len }
-        ensures least { (k : ℕ) → k < self.now.slots.len → (k ≢ i) → (result ≢ i) × ((state self.now).number result ≤ (state self.now).number k) }
+    // The lowest number that tells another key.
+    fn lowest_but(&self, slot: &Slot) -> Option<u32>
+        ensures { MatchOption result ((k : ℕ) → k < length (listed self.now.slots) → (slice_index_or (listed self.now.slots) k blank).key ≡ slot.now.key) (λ f. LowestBut self.now slot.now.key f) }
     {
-        let mut best = i;
-        for k in 0..self.slots.len {
-            if k == i {
-                continue;
-            }
-            if best == i {
-                best = k;
-            } else if self.slots.items[k].number < self.slots.items[best].number {
-                best = k;
-            }
-        }
-        best
+        let slots = self.slots.as_slice().iter();
+        slots
+            .filter(|other| other.key != slot.key)
+            .map(|other| other.number)
+            .min()
     }
 
     // The floor that the copy of the key i carries.
     pub(crate) fn floor_after(&self, i: usize) -> u32
-        requires real { i < self.now.slots.len }
+        requires real { i < length (listed self.now.slots) }
         requires fits { self.now.last + 1 < 2 ^ 32 }
         ensures { Carries (state self.now) i result }
     {
-        match self.mate(i) {
-            Some(_) => self.floor,
-            None => {
-                let j = self.lowest_but(i);
-                if j == i {
-                    self.last + 1
-                } else {
-                    self.slots.items[j].number
-                }
-            }
+        let slot = &self.slots.as_slice()[i];
+        if self.is_shared(slot) {
+            return self.floor;
         }
+        self.lowest_but(slot).unwrap_or(self.last + 1)
     }
 }

@@ -1,143 +1,106 @@
 // Tables from a scan.
-ghost use Rattle.std.specs.Prelude.{◌≡◌, ℕ, ◌<◌, ◌≤◌, Decides};
+ghost use Rattle.std.specs.Prelude.{◌≡◌, ℕ, ◌<◌, ◌≤◌, length, Decides, slice_index_or};
+ghost use Rattle.planner.specs.Slots.{listed};
+ghost use Rattle.planner.specs.Shape.{blank};
 ghost use Rattle.planner.specs.State.{Free};
 ghost use Rattle.planner.specs.Mountable.{found, Sized, Placed, Agree, Mountable, Mounting};
 
 use crate::head::Phase;
 use crate::scanned::Scanned;
+use crate::sizes::{are_sizes, key_limit};
+use crate::slot::Slot;
 use crate::slots::Slots;
 use crate::tables::Tables;
 
 impl Scanned {
+    // The highest number in the block, 0 where there is no such block.
+    fn high_of(&self, block: u8) -> u32
+        ensures { result ≡ (found self.now).high block }
+    {
+        self.high.get(block as usize).copied().unwrap_or(0)
+    }
+
     // Whether the chip, its number of keys and its floor are such as ours.
     fn is_sized(&self) -> bool
         ensures { Decides result (Sized (found self.now)) }
     {
-        if self.per_block < 4 || self.per_block > 16 {
-            return false;
-        }
-        if self.blocks < 4 || self.blocks > 16 {
-            return false;
-        }
-        if self.floor == 0 || self.floor - 1 > self.last {
-            return false;
-        }
-        self.slots.len <= self.per_block as usize * (self.blocks as usize - 3)
+        are_sizes(self.per_block, self.blocks)
+            && 0 < self.floor
+            && self.floor - 1 <= self.last
+            && self.slots.len() <= key_limit(self.per_block, self.blocks)
     }
 
     // Whether no block has a number above the last one.
     fn is_last(&self) -> bool
-        requires { self.now.blocks ≤ 16 }
         ensures { Decides result ((b : ℕ) → b < self.now.blocks → (found self.now).high b ≤ self.now.last) }
     {
-        for block in 0..self.blocks {
-            if self.high[block as usize] > self.last {
-                return false;
-            }
-        }
-        true
+        (0..self.blocks).all(|block| self.high_of(block) <= self.last)
     }
 
     // Whether the key is told by a page of the chip that its block knows of.
-    fn is_placed(&self, k: usize) -> bool
-        requires { (k < self.now.slots.len) × (self.now.blocks ≤ 16) }
-        ensures { Decides result (Placed (found self.now) k) }
+    fn is_placed(&self, slot: &Slot) -> bool
+        ensures { (k : ℕ) → slice_index_or (listed self.now.slots) k blank ≡ slot.now → Decides result (Placed (found self.now) k) }
     {
-        let slot = self.slots.items[k];
-        if slot.block >= self.blocks || slot.index >= self.per_block {
-            return false;
-        }
-        self.floor <= slot.number && slot.number <= self.high[slot.block as usize]
+        slot.place.block < self.blocks
+            && slot.place.index < self.per_block
+            && self.floor <= slot.number
+            && slot.number <= self.high_of(slot.place.block)
     }
 
     // Whether all are.
     fn are_placed(&self) -> bool
-        requires { self.now.blocks ≤ 16 }
-        ensures { Decides result ((k : ℕ) → k < self.now.slots.len → Placed (found self.now) k) }
+        ensures { Decides result ((k : ℕ) → k < length (listed self.now.slots) → Placed (found self.now) k) }
     {
-        for k in 0..self.slots.len {
-            if !self.is_placed(k) {
-                return false;
-            }
-        }
-        true
+        let mut slots = self.slots.as_slice().iter();
+        slots.all(|slot| self.is_placed(slot))
     }
 
-    // Whether two keys are told by different pages, in blocks whose numbers do not interleave.
-    fn agree(&self, j: usize, k: usize) -> bool
-        requires { (j < self.now.slots.len) × ((k < self.now.slots.len) × ((found self.now).block j < 16)) }
-        ensures { Decides result (Agree (found self.now) j k) }
+    // Whether two keys are one, or told by different pages, in blocks whose numbers do not interleave.
+    fn agree(&self, one: &Slot, other: &Slot) -> bool
+        ensures { (j k : ℕ) → j < length (listed self.now.slots) → k < length (listed self.now.slots) → slice_index_or (listed self.now.slots) j blank ≡ one.now → slice_index_or (listed self.now.slots) k blank ≡ other.now → Decides result (Agree (found self.now) j k) }
     {
-        if j == k {
+        if one.key == other.key {
             return true;
         }
-        let one = self.slots.items[j];
-        let other = self.slots.items[k];
-        if one.number == other.number {
-            return false;
+        if one.place.block == other.place.block {
+            return one.place.index != other.place.index && one.number != other.number;
         }
-        if one.block == other.block {
-            return one.index != other.index;
-        }
-        one.number > other.number || self.high[one.block as usize] < other.number
+        one.number > other.number
+            || one.number < other.number && self.high_of(one.place.block) < other.number
     }
 
     // Whether the key agrees so with all others.
-    fn agrees(&self, j: usize) -> bool
-        requires { (j < self.now.slots.len) × ((found self.now).block j < 16) }
-        ensures { Decides result ((k : ℕ) → k < self.now.slots.len → Agree (found self.now) j k) }
+    fn agrees(&self, one: &Slot) -> bool
+        ensures { (j : ℕ) → j < length (listed self.now.slots) → slice_index_or (listed self.now.slots) j blank ≡ one.now → Decides result ((k : ℕ) → k < length (listed self.now.slots) → Agree (found self.now) j k) }
     {
-        for k in 0..self.slots.len {
-            if !self.agree(j, k) {
-                return false;
-            }
-        }
-        true
+        let mut slots = self.slots.as_slice().iter();
+        slots.all(|other| self.agree(one, other))
     }
 
     // Whether all keys do.
     fn all_agree(&self) -> bool
-        requires { (k : ℕ) → k < self.now.slots.len → (found self.now).block k < 16 }
-        ensures { Decides result ((j k : ℕ) → j < self.now.slots.len → k < self.now.slots.len → Agree (found self.now) j k) }
+        ensures { Decides result ((j : ℕ) → j < length (listed self.now.slots) → (k : ℕ) → k < length (listed self.now.slots) → Agree (found self.now) j k) }
     {
-        for j in 0..self.slots.len {
-            if !self.agrees(j) {
-                return false;
-            }
-        }
-        true
+        let mut slots = self.slots.as_slice().iter();
+        slots.all(|one| self.agrees(one))
     }
 
     // Whether a block is free.
     fn has_free(&self) -> bool
-        requires { self.now.blocks ≤ 16 }
         ensures { Decides result ((b : ℕ) × Free (found self.now) b) }
     {
-        for block in 0..self.blocks {
-            if self.high[block as usize] < self.floor {
-                return true;
-            }
-        }
-        false
+        (0..self.blocks).any(|block| self.high_of(block) < self.floor)
     }
 
     // Whether the chip is one that a journal left.
     fn is_mountable(&self) -> bool
         ensures { Decides result (Mountable (found self.now)) }
     {
-        if !self.is_sized() {
-            return false;
-        }
-        if !self.is_last() {
-            return false;
-        }
-        if !self.are_placed() {
-            return false;
-        }
-        if !self.all_agree() {
-            return false;
-        }
-        self.has_free()
+        self.is_sized()
+            && self.is_last()
+            && self.are_placed()
+            && self.all_agree()
+            && self.has_free()
     }
 }
 

@@ -5,6 +5,7 @@ ghost use Rattle.planner.specs.Shape.{spent_above};
 ghost use Rattle.planner.specs.State.{limit};
 ghost use Rattle.planner.specs.Steps.{state};
 
+use crate::sizes::key_limit;
 use crate::tables::Tables;
 
 /// Numbers are spent once one is above this.
@@ -22,10 +23,7 @@ impl Tables {
     pub fn unused(&self) -> Option<u32>
         ensures { MatchOption result (self.now.last + 1 ≡ 2 ^ 32) (λ n. n ≡ self.now.last + 1) }
     {
-        if self.last == u32::MAX {
-            return None;
-        }
-        Some(self.last + 1)
+        self.last.checked_add(1)
     }
 
     /// The floor of the next batch: the lowest number that tells a key, or the next number where there is no key.
@@ -33,7 +31,7 @@ impl Tables {
         ensures { MatchOption result (self.now.last + 1 ≡ 2 ^ 32) (λ f. BatchFloor (state self.now) f) }
     {
         match self.lowest() {
-            Some(slot) => Some(self.slots.items[slot].number),
+            Some(slot) => Some(self.slots.as_slice()[slot].number),
             None => self.unused(),
         }
     }
@@ -42,6 +40,6 @@ impl Tables {
     pub fn limit(&self) -> usize
         ensures { result ≡ limit self.now.per self.now.blocks }
     {
-        self.per as usize * (self.blocks as usize - 3)
+        key_limit(self.per, self.blocks)
     }
 }

@@ -1,9 +1,11 @@
 // What the journal knows while mounted.
 ghost use Rattle.std.specs.Prelude.{◌≡◌, ◌≤◌, length};
 ghost use Rattle.planner.specs.State.{Sound};
+ghost use Rattle.planner.specs.Slots.{listed};
 ghost use Rattle.planner.specs.Shape.{shape, used_of, Keeps};
 
 use crate::head::{Head, Phase};
+use crate::sizes::MOST_BLOCKS;
 use crate::slots::Slots;
 
 /// Which page tells which key, the highest number in each block, the floor and the last number, and the block being
@@ -11,7 +13,7 @@ use crate::slots::Slots;
 #[derive(Drop)]
 pub struct Tables {
     pub(crate) slots: Slots,
-    pub(crate) high: [u32; 16],
+    pub(crate) high: [u32; MOST_BLOCKS],
     /// The pages of a block.
     pub(crate) per: u8,
     pub(crate) blocks: u8,
@@ -22,7 +24,7 @@ pub struct Tables {
     ghost tall: { length high ≡ 16 },
     ghost slim: { per ≤ 16 },
     ghost small: { blocks ≤ 16 },
-    ghost few: { slots.len ≤ 208 },
+    ghost few: { length (listed slots) ≤ 208 },
     ghost within: { used_of per head ≤ per },
     ghost sound: { ∥ Sound (shape slots high per blocks floor last head) ∥₁ },
     ghost spare: { ∥ Keeps phase (shape slots high per blocks floor last head) ∥₁ },

@@ -12,6 +12,7 @@ mod tree;
 
 pub use node::Node;
 pub use sound::TreeFault;
+pub use standing::NAME_LIMIT;
 pub use table::{ENTRY_LIMIT, Tree};
 
 #[cfg(test)]

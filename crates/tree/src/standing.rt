@@ -9,7 +9,7 @@ use crate::table::Tree;
 use page::EntryKind;
 
 /// The most names of a path.
-const NAME_LIMIT: u8 = 8;
+pub const NAME_LIMIT: u8 = 8;
 
 impl Tree {
     // The directory with this file number.

@@ -1,8 +1,6 @@
-use Rattle.std.proofs.Common.{◌≡◌, ℕ, ◌<◌, ◌≤◌, get_or}
-use lib.Bits.{bit_and}
+use Rattle.std.proofs.Common.{◌≡◌, ◌++◌, take, drop}
+use Rattle.flash.specs.Chip.{cleared}
 use Rattle.flash.proofs.bytes.clear_bits.Given as goal
 
 abbrev pub invariant-loop-k : goal.invariant-loop-k
-invariant-loop-k l =
-    ((j : ℕ) → j < l.k → get_or l.cells j 0 ≡ bit_and (get_or l.initial.cells j 0) (get_or l.given j 0))
-    × ((j : ℕ) → l.k ≤ j → get_or l.cells j 0 ≡ get_or l.initial.cells j 0)
+invariant-loop-k l = l.cells ≡ cleared (take l.k l.initial.cells) l.given ++ drop l.k l.initial.cells

@@ -1,10 +1,10 @@
 use Rattle.std.proofs.Common.{true, false, sym, ◌∙◌, rules}
 use Rattle.std.proofs.lemmas.Bool.{eq-eqb, ne_eqb}
+use Rattle.std.proofs.lemmas.List.{at_drop_all}
 use Rattle.object_store.specs.Lent.{gap}
 use Rattle.object_store.specs.Objects.{Objects, keys_of}
 use Rattle.object_store.proofs.Gaps.{gap_on}
 use Rattle.object_store.proofs.Nothing.{no_kept}
-use Rattle.object_store.proofs.Walks.{walked_on}
 use Rattle.object_store.proofs.table_store.lowest_unused.Goals as goal
 use Rattle.object_store.proofs.table_store.lowest_unused.Goals.{then-kept-number, else-kept-number}
 
@@ -16,4 +16,4 @@ loop-kept-preserved c =
     ]
 
 pub returns : goal.returns
-returns c = sym (walked_on (λ (os : Objects). gap c.loop-kept.number (keys_of os)) c.args.map.now c.loop-kept.kept-index (search rules)) ∙ c.loop-kept.invariant.1
+returns c = sym (at_drop_all (λ (os : Objects). gap c.loop-kept.number (keys_of os)) c.args.map.now c.loop-kept.kept-index (search rules)) ∙ c.loop-kept.invariant.1

@@ -1,12 +1,12 @@
-use native.Mathlib.Decide.{ℕ_discrete}
-use Rattle.std.proofs.Common.{sym, subst}
+use Rattle.std.proofs.Common.{ℕ, ◌<◌, length, rules, tests}
+use Rattle.std.proofs.lemmas.Iterator.{cases_from_all, YieldsList-from_slice}
 use Rattle.planner.specs.Mountable.{found, Agree}
-use Rattle.planner.proofs.Limits.{below_one}
+use Rattle.planner.specs.Slots.{listed}
+use Rattle.planner.proofs.Slotted.{Where, each_slot}
 use Rattle.planner.proofs.scanned.Scanned.all_agree.Goals as goal
 
-pub loop-j-preserved : goal.loop-j-preserved
-loop-j-preserved c i k l m =
-    elim (ℕ_discrete i c.loop-j.j) [
-      | yes e ↦ subst (λ j. Agree (found c.args.self.now) j k) (sym e) (c.agrees.ensures.0 c.if-not-agrees.false k m)
-      | no ne ↦ c.loop-j.invariant i k (below_one i c.loop-j.j l ne) m
-    ]
+pub returns : goal.returns
+returns c =
+    let s = c.args.self.now.slots in
+    each_slot s (λ j. (k : ℕ) → k < length (listed s) → Agree (found c.args.self.now) j k) c.all.result
+    (cases_from_all _ _ c.all.result (Where s _) (Where s _) c.all.ensures.ran (YieldsList-from_slice (listed s) cc) (λ x q k. search (rules, tests)) (λ x q k. search (rules, tests)))

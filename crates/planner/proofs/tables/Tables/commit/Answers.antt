@@ -17,7 +17,7 @@ use Rattle.planner.proofs.Unique.{the_sound}
 use Rattle.planner.proofs.tables.Tables.commit.Goals as goal
 
 module _ (t : Tables) (pages : List Says) (h : Head) (after : Slots) (f : ℕ) (is : t.head ≡ Some h) (some : 1 ≤ length pages) (room : Room (state t) (length pages))
-    (floor : BatchFloor (state t) f) (few : after.len ≤ limit t.per t.blocks)
+    (floor : BatchFloor (state t) f) (few : length (listed after) ≤ limit t.per t.blocks)
     (written : Written (listed t.slots) pages h.block h.used (t.last + 1) (length pages) (listed after)) where
   -- the state after
   abbrev then : State
@@ -40,7 +40,7 @@ module _ (t : Tables) (pages : List Says) (h : Head) (after : Slots) (f : ℕ) (
   within : h.used + length pages ≤ t.per
   within = omega (arith, ap (used_of t.per) is, room.left)
 
-  most : after.len ≤ 208
+  most : length (listed after) ≤ 208
   most = omega (arith, few, limit_most t.per t.blocks t.slim t.small)
 
   written_at : Written (listed t.slots) pages (state t).head (state t).used (t.last + 1) (length pages) (listed after)

@@ -5,9 +5,10 @@ use Rattle.object.specs.declared.key.Key.{Key}
 use Rattle.planner.specs.State.{State, Sound, Lowest}
 use Rattle.planner.specs.Moves.{Copied}
 use Rattle.planner.specs.Shape.{shape, blank, head_of, used_of, Keeps}
+use Rattle.planner.specs.Slots.{listed}
 use Rattle.planner.specs.Steps.{state, Copying, MayCopy}
 use Rattle.planner.specs.declared.head.Head.{Head}
-use Rattle.planner.specs.declared.slot.Slot.{Slot}
+use Rattle.planner.specs.Order.{Slot}
 use Rattle.planner.specs.declared.slots.Slots.{Slots}
 use Rattle.planner.specs.declared.tables.Tables.{Tables}
 use Rattle.planner.proofs.Writing.{copy_writes, moved_other}
@@ -30,10 +31,10 @@ overflow_add-self c =
     let t = c.args.self.now in
     let l : t.last + 1 < 2 ^ 32 = (going t c.args.slot c.args.floor c.requires).number in omega arith
 
-module _ (t : Tables) (moved : Slots) (h : Head) (i f : ℕ) (is : t.head ≡ Some h) (may : MayCopy t.phase (state t) i f) (len : moved.len ≡ t.slots.len)
-    (items : moved.items ≡ set t.slots.items i (record { key = (get_or t.slots.items i blank).key; block = h.block; index = h.used; number = t.last + 1 })) where
+module _ (t : Tables) (moved : Slots) (h : Head) (i f : ℕ) (is : t.head ≡ Some h) (may : MayCopy t.phase (state t) i f)
+    (items : listed moved ≡ set (listed t.slots) i (record { key = (get_or (listed t.slots) i blank).key; place = record { block = h.block; index = h.used }; number = t.last + 1 })) where
   abbrev key : Key
-  key = (get_or t.slots.items i blank).key
+  key = (get_or (listed t.slots) i blank).key
 
   -- the state after
   abbrev after : State
@@ -46,15 +47,18 @@ module _ (t : Tables) (moved : Slots) (h : Head) (i f : ℕ) (is : t.head ≡ So
   inside : h.block < 16
   inside = omega (arith, ap (head_of t.blocks) is, (going t i f may).headed, t.small)
 
-  real : i < length t.slots.items
-  real = omega (arith, lowest.real, t.slots.long, t.slots.few)
+  real : i < length (listed t.slots)
+  real = lowest.real
+
+  kept : length (listed moved) ≡ length (listed t.slots)
+  kept = ap length items ∙ length-set (listed t.slots) i (record { key = key; place = record { block = h.block; index = h.used }; number = t.last + 1 })
 
   spaced : (state t).used < t.per
   spaced = (going t i f may).space
 
   writes : Copied (state t) i f after
   writes =
-      copy_writes t.slots moved t.high t.per t.blocks t.floor t.last t.head h i f key is real (omega (arith, inside, t.tall)) len items
+      copy_writes t.slots moved t.high t.per t.blocks t.floor t.last t.head h i f key is real (omega (arith, inside, t.tall)) items
 
   sound : Sound after
   sound = copy_sound (state t) (the_sound t) i f lowest (going t i f may).carries after writes (going t i f may).headed spaced
@@ -65,22 +69,22 @@ module _ (t : Tables) (moved : Slots) (h : Head) (i f : ℕ) (is : t.head ≡ So
   keeps : ∥ Keeps t.phase after ∥₁
   keeps = copied_keeps (state t) i f after writes t.phase may t.spare
 
-  same_key : (k : ℕ) → (get_or moved.items k blank).key ≡ (get_or t.slots.items k blank).key
+  same_key : (k : ℕ) → (get_or (listed moved) k blank).key ≡ (get_or (listed t.slots) k blank).key
   same_key k =
       elim (ℕ_discrete k i) [
         | yes e ↦
-            ap (λ j. (get_or moved.items j blank).key) e ∙ ap (λ xs. (get_or xs i blank).key) items
-            ∙ ap (λ (x : Slot). x.key) (get_or-set_same t.slots.items i (record { key = key; block = h.block; index = h.used; number = t.last + 1 }) blank real)
-            ∙ ap (λ j. (get_or t.slots.items j blank).key) (sym e)
+            ap (λ j. (get_or (listed moved) j blank).key) e ∙ ap (λ xs. (get_or xs i blank).key) items
+            ∙ ap (λ (x : Slot). x.key) (get_or-set_same (listed t.slots) i (record { key = key; place = record { block = h.block; index = h.used }; number = t.last + 1 }) blank real)
+            ∙ ap (λ j. (get_or (listed t.slots) j blank).key) (sym e)
         | no ne ↦
             ap (λ (x : Slot). x.key)
-            (moved_other t.slots moved t.high t.per t.blocks t.floor t.last t.head h i f key is real (omega (arith, inside, t.tall)) len items k ne)
+            (moved_other t.slots moved t.high t.per t.blocks t.floor t.last t.head h i f key is real (omega (arith, inside, t.tall)) items k ne)
       ]
 
 pub bounds-self-head : goal.bounds-self-head
 bounds-self-head c =
     let t = c.args.self.now in
-    inside t c.move_to.new.self c.in-Some.head c.args.slot c.args.floor c.in-Some.is c.requires c.move_to.ensures.count c.move_to.ensures.items
+    inside t c.move_to.new.self c.in-Some.head c.args.slot c.args.floor c.in-Some.is c.requires c.move_to.ensures
 
 pub invariant_of-self : goal.invariant_of-self
 invariant_of-self c =
@@ -94,10 +98,10 @@ invariant_of-self c =
       tall = length-set t.high h.block (t.last + 1) ∙ t.tall;
       slim = t.slim;
       small = t.small;
-      few = omega (arith, e.count, t.few);
-      within = within t m h i f c.in-Some.is c.requires e.count e.items;
-      sound = ∣ sound t m h i f c.in-Some.is c.requires e.count e.items ∣₁;
-      spare = keeps t m h i f c.in-Some.is c.requires e.count e.items;
+      few = omega (arith, kept t m h i f c.in-Some.is c.requires e, t.few);
+      within = within t m h i f c.in-Some.is c.requires e;
+      sound = ∣ sound t m h i f c.in-Some.is c.requires e ∣₁;
+      spare = keeps t m h i f c.in-Some.is c.requires e;
     }
 
 pub returns : goal.returns
@@ -108,12 +112,12 @@ returns c =
     let i = c.args.slot in
     let f = c.args.floor in
     let e = c.move_to.ensures in
-    let o = writes t m h i f c.in-Some.is c.requires e.count e.items in
-    let s = after t m h i f c.in-Some.is c.requires e.count e.items in
+    let o = writes t m h i f c.in-Some.is c.requires e in
+    let s = after t m h i f c.in-Some.is c.requires e in
     record {
       copied = o;
-      keys = record { per = refl; blocks = refl; count = e.count; keys = λ k l. same_key t m h i f c.in-Some.is c.requires e.count e.items k };
-      spare = keeps_spare t.phase s (keeps t m h i f c.in-Some.is c.requires e.count e.items);
+      keys = record { per = refl; blocks = refl; count = kept t m h i f c.in-Some.is c.requires e; keys = λ k l. same_key t m h i f c.in-Some.is c.requires e k };
+      spare = keeps_spare t.phase s (keeps t m h i f c.in-Some.is c.requires e);
       phase = refl;
       frees = copied_frees (state t) i f s o t.phase c.requires t.spare;
       advances = λ g.

@@ -1,14 +1,14 @@
-use Rattle.std.proofs.Common.{◌≡◌, length, sym, refl, ap, ◌∙◌, arith}
+use Rattle.std.proofs.Common.{◌≡◌, length, refl, ap, arith}
 use Rattle.planner.specs.Formats.{Sizes}
-use Rattle.planner.proofs.Firsts.{listed_long}
+use Rattle.planner.specs.Slots.{listed}
 use Rattle.planner.proofs.Fresh.{fresh_sound, fresh_free}
 use Rattle.planner.proofs.tables.Tables.new.Goals as goal
 
 pub invariant_of-result : goal.invariant_of-result
 invariant_of-result c =
     let slots = c.new.result in
-    let none : slots.len ≡ 0 = sym (listed_long slots) ∙ ap length c.new.ensures in
-    let sizes : Sizes c.args.per_block c.args.blocks = record { wide = omega arith; slim = omega arith; tall = omega arith; small = omega arith } in
+    let none : length (listed slots) ≡ 0 = ap length c.new.ensures in
+    let sizes : Sizes c.args.per_block c.args.blocks = c.are_sizes.ensures.0 c.if-not-are_sizes.false in
     record {
       tall = refl;
       slim = sizes.slim;

@@ -1,6 +1,0 @@
-use Rattle.std.proofs.Common.{◌≡◌, ◌^◌, ◌<◌}
-use Rattle.page.specs.Bits.{field}
-use Rattle.page.proofs.bits.read.Given as goal
-
-abbrev pub invariant-loop-i : goal.invariant-loop-i
-invariant-loop-i l = (l.value ≡ field l.page l.bits.at l.i) × (l.value < 2 ^ l.i)

@@ -1,6 +1,0 @@
-use Rattle.std.proofs.Common.{ℕ, ◌<◌, ◌≤◌}
-use Rattle.planner.specs.Steps.{state}
-use Rattle.planner.proofs.tables.Tables.lowest.Given as goal
-
-abbrev pub invariant-loop-k : goal.invariant-loop-k
-invariant-loop-k l = (l.best < l.self.slots.len) × ((j : ℕ) → j < l.k → (state l.self).number l.best ≤ (state l.self).number j)
