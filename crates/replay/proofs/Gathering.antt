@@ -1,9 +1,9 @@
 -- A page that begins anew.
-use Rattle.std.proofs.Common.{◌≡◌, ℕ, zero, suc, ◌+◌, ◌<◌, ◌≤◌, List, [], ◌∷◌, sym, refl, ap, ◌∙◌, subst, arith}
+use Rattle.std.proofs.Common.{◌≡◌, ℕ, zero, suc, ◌+◌, ◌≤◌, List, [], ◌∷◌, sym, ap, ◌∙◌, subst, arith}
 use Rattle.page.specs.declared.fields.Header.{Header}
 use Rattle.replay.specs.declared.group.Group.{Group}
 use Rattle.replay.specs.declared.group.Group.TheVariants.{Idle, Part, Whole}
-use Rattle.replay.specs.Gathered.{Follows, Run, NewestIs, Gathers, Starts}
+use Rattle.replay.specs.Gathered.{Follows, Run, Gathers, Starts}
 
 -- the newest page tells how long the run is, and of what size the group
 pub newest_run : (k size : ℕ) (h : Header) (pages : List Header) → Run k size (h ∷ pages) → (k ≡ h.index + 1) × (h.size ≡ size)

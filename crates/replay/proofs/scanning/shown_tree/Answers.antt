@@ -1,4 +1,4 @@
-use Rattle.std.proofs.Common.{refl, Err, sym, ap, ◌∙◌, subst, arith}
+use Rattle.std.proofs.Common.{refl, Err, sym, ap, ◌∙◌, subst}
 use Rattle.std.proofs.lemmas.Result.{err_from_is_err_and}
 use Rattle.tree.specs.Table.{nodes_of}
 use Rattle.replay.specs.Damage.{many_entries, Trees}
