@@ -1,5 +1,5 @@
 -- Slots collected from the remembered pages, one page further.
-use Rattle.std.proofs.Common.{◌≡◌, ℕ, ◌+◌, ◌<◌, Bool, ◌⊎◌, List, [], length, get_or, sym, refl, ap, ◌∙◌, subst, inl, inr, arith}
+use Rattle.std.proofs.Common.{◌≡◌, ℕ, ◌+◌, ◌<◌, Bool, ◌⊎◌, List, length, get_or, Some, Option, sym, refl, ap, ◌∙◌, subst, inl, inr, arith}
 use native.Mathlib.Decide.{dec_lt}
 use Rattle.std.specs.List.{insert}
 use Rattle.std.proofs.lemmas.List.{get_or_default}
@@ -22,7 +22,7 @@ rank_apart k j a b e =
     let p : k.part ≡ j.part = omega arith in
     ap (λ (x : ℕ). record { file = x; part = k.part }) f ∙ ap (λ (x : ℕ). record { file = j.file; part = x }) p
 
-pub sets_same : (k j : Key) → Sets k ≡ Sets j → k ≡ j
+pub sets_same : (k j : Key) → ◌≡◌ {A = Option Says} (Some (Sets k)) (Some (Sets j)) → k ≡ j
 sets_same k j e = cc
 
 one_more : (i j : ℕ) → j < i + 1 → (j < i) ⊎ (j ≡ i)
@@ -30,7 +30,7 @@ one_more i j h = elim (dec_lt j i) [ yes l ↦ inl l | no g ↦ inr (omega arith
 
 module _ (xs : List Seen) (flags : List Bool) (f : ℕ) where
   said : (j : ℕ) (d : Seen) (k : Key) → ShowsAt xs flags f j k → SaidTo (get_or xs j d).says k
-  said j d k s = subst (λ (w : Says). SaidTo w k) (sym (s.sets d)) refl
+  said j d k s = subst (λ (w : Option Says). SaidTo w k) (sym (s.sets d)) refl
 
   -- one page shows a key
   pub shows_once : (i j : ℕ) (k : Key) → i < length xs → j < length xs → ShowsAt xs flags f i k → ShowsAt xs flags f j k → i ≡ j
@@ -48,9 +48,6 @@ module _ (xs : List Seen) (flags : List Bool) (f : ℕ) where
   shows_one_key i k j a b = sets_same k j (sym (a.sets nothing) ∙ b.sets nothing)
 
   module _ (W : Key → Type 0) where
-    pub collects_none : Collects xs flags f 0 W []
-    collects_none = record { rising = λ i j d lt h. absurd (omega arith); each = λ i d h. absurd (omega arith); all = λ j k h s w. absurd (omega arith) }
-
     module _ (at : ℕ) (here : at < length xs) (slots : List (Slot ℕ)) (c : Collects xs flags f at W slots) where
       -- a page that shows no wanted key
       pub collects_skip : ((k : Key) → ShowsAt xs flags f at k → W k → ⊥) → Collects xs flags f (at + 1) W slots

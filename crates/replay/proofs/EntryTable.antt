@@ -37,10 +37,6 @@ entry_page_reads c place e bytes same p = ap entry_read (ap decoded same ∙ p.r
 node_file : (x y : Node) → x ≡ y → x.file ≡ y.file
 node_file x y e = ap (λ (n : Node). n.file) e
 
--- no node
-pub entries_none : (c : Chip) (slots : List (Slot ℕ)) (nodes : List Node) → length nodes ≡ 0 → EntriesAt c slots 0 nodes
-entries_none c slots nodes e = record { count = e; each = λ file x (i, h, is). absurd (omega arith); all = λ i d x h p. absurd (omega arith) }
-
 module _ (c : Chip) (slots : List (Slot ℕ)) (i : ℕ) (lt : i < length slots) (few : length slots ≤ 60) (rising : RisingFiles slots) (slot : Slot ℕ) (is : (d : Slot ℕ) → get_or slots i d ≡ slot)
     (e : Entry) (read : EntryPage c slot.place e) (old : List Node) (so_far : EntriesAt c slots i old) where
   abbrev new : Node

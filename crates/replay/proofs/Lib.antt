@@ -18,7 +18,6 @@ pub mod Written
 pub mod Worked
 pub mod Marking
 pub mod Nothing
-pub mod Deciding
 pub mod Collecting
 pub mod Tied
 pub mod Told

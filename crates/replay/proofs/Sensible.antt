@@ -1,5 +1,5 @@
 -- What is shown makes sense, or it does not: from the tables to the chip.
-use Rattle.std.proofs.Common.{◌≡◌, ℕ, ◌+◌, ◌<◌, ◌≤◌, true, ltb, List, length, get_or, Ok, Err, sym, ap, ◌∙◌, subst, arith}
+use Rattle.std.proofs.Common.{◌≡◌, ℕ, ◌+◌, ◌<◌, ◌≤◌, true, ltb, List, length, Some, get_or, Ok, Err, sym, ap, ◌∙◌, subst, arith}
 use native.Mathlib.Decide.{dec_lt}
 use Rattle.std.proofs.lemmas.Bool.{and_parts, ltb-true}
 use Rattle.flash.specs.Chip.{Chip}
@@ -35,7 +35,7 @@ use Rattle.replay.proofs.Counted.{no_longer}
 use Rattle.replay.proofs.Nothing.{nothing}
 use Rattle.replay.proofs.Tied.{Is, at, remembered_distinct}
 
-small_by : (h : Header) (t : Content) (k : Key) → content_fits h t ≡ true → says_by h.file t ≡ Sets k → k.part < 256
+small_by : (h : Header) (t : Content) (k : Key) → content_fits h t ≡ true → says_by h.file t ≡ Some (Sets k) → k.part < 256
 small_by h Note k fit e = let z : ◌≡◌ {A = ℕ} 0 1 = cc in absurd (omega arith)
 small_by h (content.Entry n) k fit e = let z : ◌≡◌ {A = ℕ} 0 k.part = cc in omega arith
 small_by h (content.Chunk n) k fit e =

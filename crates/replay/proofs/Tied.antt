@@ -1,5 +1,5 @@
 -- What the remembered pages show is what the log of the chip shows.
-use Rattle.std.proofs.Common.{◌≡◌, ℕ, ◌<◌, ◌≤◌, Bool, List, length, get_or, Ok, Result, sym, refl, ap, ◌∙◌, subst, arith}
+use Rattle.std.proofs.Common.{◌≡◌, ℕ, ◌<◌, ◌≤◌, Bool, List, length, Option, Some, get_or, Ok, Result, sym, refl, ap, ◌∙◌, subst, arith}
 use native.Mathlib.Decide.{dec_lt}
 use Rattle.std.proofs.lemmas.List.{get_or_default}
 use Rattle.flash.specs.Chip.{Chip, page}
@@ -29,16 +29,16 @@ use Rattle.replay.proofs.Newer.{newest_tells}
 use Rattle.replay.proofs.Nothing.{nothing}
 
 -- what a page says, by its content
-sets_gives : (file : ℕ) (c : Content) (k : Key) → says_by file c ≡ Sets k → (v : Object) × GivesBy file c k v
+sets_gives : (file : ℕ) (c : Content) (k : Key) → says_by file c ≡ Some (Sets k) → (v : Object) × GivesBy file c k v
 sets_gives file Note k e = let z : ◌≡◌ {A = ℕ} 0 1 = cc in absurd (omega arith)
 sets_gives file (content.Entry n) k e = (object.Entry n, (cc, refl))
 sets_gives file (content.Chunk n) k e = (object.Chunk n.bytes, (cc, refl))
 sets_gives file Gone k e = let z : ◌≡◌ {A = ℕ} 0 1 = cc in absurd (omega arith)
 
-gives_sets : (file : ℕ) (c : Content) (k : Key) (v : Object) → GivesBy file c k v → says_by file c ≡ Sets k
+gives_sets : (file : ℕ) (c : Content) (k : Key) (v : Object) → GivesBy file c k v → says_by file c ≡ Some (Sets k)
 gives_sets file Note k v g = absurd g
-gives_sets file (content.Entry n) k v g = ap Sets (sym g.0)
-gives_sets file (content.Chunk n) k v g = ap Sets (sym g.0)
+gives_sets file (content.Entry n) k v g = ap (λ (j : Key). Some (Sets j)) (sym g.0)
+gives_sets file (content.Chunk n) k v g = ap (λ (j : Key). Some (Sets j)) (sym g.0)
 gives_sets file Gone k v g = absurd g
 
 said_speaks : (file : ℕ) (c : Content) (k : Key) → SaidTo (says_by file c) k → SpeaksBy file c k
@@ -157,7 +157,7 @@ module _ (c : Chip) (xs : List Seen) (r : Remembers c (length c.pages) xs) where
         let gives = sets_gives p.page.header.file p.page.content k (sym (ap (λ (z : Seen). z.says) (x.is nothing)) ∙ s.sets nothing) in (
           record {
             counted = counted_to i p x s.counted;
-            speaks = said_speaks p.page.header.file p.page.content k (subst (λ (w : Says). SaidTo w k) (ap (λ (z : Seen). z.says) (x.is nothing)) (subst (λ (w : Says). SaidTo w k) (sym (s.sets nothing)) refl));
+            speaks = said_speaks p.page.header.file p.page.content k (subst (λ (w : Option Says). SaidTo w k) (ap (λ (z : Seen). z.says) (x.is nothing)) (subst (λ (w : Option Says). SaidTo w k) (sym (s.sets nothing)) refl));
             newest = newest;
           },
           gives,
@@ -168,7 +168,7 @@ module _ (c : Chip) (xs : List Seen) (r : Remembers c (length c.pages) xs) where
             let (j, y) = at q hq.here in
             elim (dec_lt i j) [
               | yes l ↦ absurd (s.newest j nothing l y.low (counted_from j q y hq)
-                  (subst (λ (w : Says). SaidTo w k) (sym (ap (λ (z : Seen). z.says) (y.is nothing))) (speaks_said q.page.header.file q.page.content k sp)))
+                  (subst (λ (w : Option Says). SaidTo w k) (sym (ap (λ (z : Seen). z.says) (y.is nothing))) (speaks_said q.page.header.file q.page.content k sp)))
               | no g ↦ elim (dec_lt j i) [
                 | yes l ↦ omega (arith, r.rising j i nothing l x.low, ap seen_number (x.is nothing), ap seen_number (y.is nothing))
                 | no e ↦ (let one : j ≡ i = omega arith in omega (arith, ap seen_number (sym (y.is nothing) ∙ ap (λ (n : ℕ). get_or xs n nothing) one ∙ x.is nothing)))
@@ -186,6 +186,6 @@ module _ (c : Chip) (xs : List Seen) (r : Remembers c (length c.pages) xs) where
                 r.rising i j d l jlt,
                 ap seen_number (x.is d),
                 ap seen_number (y.is d),
-                n.newest q (counted_to j q y counted) (said_speaks q.page.header.file q.page.content k (subst (λ (w : Says). SaidTo w k) (ap (λ (z : Seen). z.says) (y.is d)) said)),
+                n.newest q (counted_to j q y counted) (said_speaks q.page.header.file q.page.content k (subst (λ (w : Option Says). SaidTo w k) (ap (λ (z : Seen). z.says) (y.is d)) said)),
               ));
         }

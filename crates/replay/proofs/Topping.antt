@@ -14,9 +14,6 @@ use Rattle.replay.proofs.Tied.{at, page_at}
 split : (i j : ℕ) → j < i + 1 → (j < i) ⊎ (j ≡ i)
 split i j h = elim (dec_lt j i) [ yes l ↦ inl l | no g ↦ inr (omega arith) ]
 
-pub top_none : (xs : List Seen) (n b t : ℕ) → t ≡ 0 → TopAmong xs n 0 b t
-top_none xs n b t e = record { above = λ i d h s. absurd (omega arith); here = inl e }
-
 module _ (xs : List Seen) (n i : ℕ) (lt : i < length xs) (rising : RisingNumbers xs) where
   new_top : (b : ℕ) → (get_or xs i nothing).place / n ≡ b → (t : ℕ) → t ≡ seen_number (get_or xs i nothing) → TopAmong xs n (i + 1) b t
   new_top b e t is =

@@ -18,7 +18,7 @@ slot_rank s = key_rank s.key
 
 -- the pages set no key with a part of 256 or more, so that the rank tells keys apart
 abbrev pub SmallParts : List Seen → Type 0
-SmallParts xs = (i : ℕ) (d : Seen) (k : Key) → i < length xs → (get_or xs i d).says ≡ Sets k → k.part < 256
+SmallParts xs = (i : ℕ) (d : Seen) (k : Key) → i < length xs → (get_or xs i d).says ≡ Some (Sets k) → k.part < 256
 
 -- some page shows the entry of the key's file
 abbrev pub Lives : List Seen → List Bool → ℕ → Key → Type 0

@@ -50,8 +50,7 @@ impl Pages<'_> {
 
     // The wanted keys of those that are shown, in rising order.
     pub(crate) fn collect<W: Wants>(&self, wants: &W) -> Table<Slot, PAGE_LIMIT>
-        requires room { length self.now.seen.now ≤ 256 }
-        requires small { SmallParts self.now.seen.now }
+        requires { SmallParts self.now.seen.now }
         ensures { Collects self.now.seen.now self.now.whole.now self.now.floor (length self.now.seen.now) (W.Wants.wanted wants.now) (rows result) }
     {
         let mut slots = Table::new(NO_SLOT);

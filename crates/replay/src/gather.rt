@@ -5,7 +5,7 @@ ghost use Rattle.page.specs.Fits.{fits as page_fits};
 ghost use Rattle.replay.specs.Remembers.{GathersAll, Powered, TakesIn};
 
 use crate::fault::ReplayFault;
-use crate::seen::{Says, Seen, says_of};
+use crate::seen::{Seen, says_of};
 use crate::tables::PAGE_LIMIT;
 use flash::{PAGE_BYTES, ReadFlash, page_count};
 use lookup::Table;
@@ -21,7 +21,7 @@ const NO_PAGE: Seen = Seen {
         floor: 0,
         file: 0,
     },
-    says: Says::Nothing,
+    says: None,
 };
 
 // Remembers what was read at `place`.

@@ -2,13 +2,14 @@
 ghost use Rattle.std.specs.Prelude.{◌≤◌, length};
 
 use crate::seen::Seen;
+use crate::tables::PAGE_LIMIT;
 
 /// The remembered pages by rising number, which of them have a complete group, and the floor. `whole` lies
 /// beside the pages: they are remembered, and shared, before any group is known to be complete.
 #[derive(Clone, Copy)]
 pub(crate) struct Pages<'a> {
     pub(crate) seen: &'a [Seen],
-    pub(crate) whole: &'a [bool],
+    pub(crate) whole: &'a [bool; PAGE_LIMIT],
     pub(crate) floor: u32,
-    ghost marked: { length seen.now ≤ length whole.now },
+    ghost few: { length seen.now ≤ 256 },
 }

@@ -33,7 +33,6 @@ fn shown_tree<F: ReadFlash>(
     work: &mut [u8; PAGE_BYTES],
     pages: &Pages,
 ) -> Result<Tree, ReplayFault>
-    requires size { length pages.now.seen.now ≤ 256 }
     requires remembers { Remembers (F.ReadFlash.chip powered.now.flash.now) (length (F.ReadFlash.chip powered.now.flash.now).pages) pages.now.seen.now }
     requires marks { Marks pages.now.seen.now pages.now.whole.now }
     ensures { Trees (F.ReadFlash.chip powered.now.flash.now) pages.now.floor result }

@@ -7,11 +7,9 @@ use lookup::Ranked;
 use object::Key;
 use page::{Content, Header, Page};
 
-/// What a page says to its slot: one of three things side by side, so that a reader tells them apart in
-/// one pattern, where an `Option` would take two.
+/// What a page says to a slot.
 #[derive(Clone, Copy, PartialEq, Eq, Debug)]
 pub enum Says {
-    Nothing,
     Sets(Key),
     Removes(Key),
 }
@@ -21,7 +19,7 @@ pub enum Says {
 pub struct Seen {
     pub place: usize,
     pub header: Header,
-    pub says: Says,
+    pub says: Option<Says>,
 }
 
 impl Ranked for Seen {
@@ -33,18 +31,18 @@ impl Ranked for Seen {
 }
 
 // What a page says, by its kind.
-pub(crate) fn says_of(page: &Page) -> Says
+pub(crate) fn says_of(page: &Page) -> Option<Says>
     requires { page_fits page.now ≡ true }
     ensures { result ≡ says_by page.now.header.file page.now.content }
 {
     let file = page.header.file;
     match &page.content {
-        Content::Note => Says::Nothing,
-        Content::Entry(_) => Says::Sets(Key::entry(file)),
-        Content::Chunk(chunk) => Says::Sets(Key {
+        Content::Note => None,
+        Content::Entry(_) => Some(Says::Sets(Key::entry(file))),
+        Content::Chunk(chunk) => Some(Says::Sets(Key {
             file,
             part: chunk.index + 1,
-        }),
-        Content::Gone => Says::Removes(Key::entry(file)),
+        })),
+        Content::Gone => Some(Says::Removes(Key::entry(file))),
     }
 }

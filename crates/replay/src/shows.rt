@@ -8,15 +8,16 @@ use crate::seen::Says;
 use object::Key;
 
 // Whether what is said is said to this key.
-fn said_to(says: Says, key: &Key) -> bool
+fn said_to(says: Option<Says>, key: &Key) -> bool
     ensures { Decides result (SaidTo says key.now) }
 {
     match says {
-        Says::Nothing => false,
-        Says::Sets(slot) | Says::Removes(slot) => slot == *key,
+        Some(Says::Sets(slot)) | Some(Says::Removes(slot)) => slot == *key,
+        None => false,
     }
 }
 
+// A page is named by its index, so that each asks, as an element of a slice does, that it is below the number of pages.
 impl Pages<'_> {
     // Whether the page at `i` counts.
     fn counts(&self, i: usize) -> bool
@@ -47,7 +48,8 @@ impl Pages<'_> {
         requires { i < length self.now.seen.now }
         ensures { Shows self.now.seen.now self.now.whole.now self.now.floor i result }
     {
-        let Says::Sets(key) = self.seen[i].says else {
+        let says = self.seen[i].says?;
+        let Says::Sets(key) = says else {
             return None;
         };
         if !self.counts(i) || self.spoken_after(i, &key) {

@@ -1,12 +1,9 @@
-use Rattle.std.proofs.Common.{◌≡◌, ℕ, length, ap, subst, arith}
+use Rattle.std.proofs.Common.{◌≡◌, ℕ, length, subst, arith}
 use Rattle.std.proofs.lemmas.List.{get_or_default}
 use Rattle.tree.specs.Table.{nodes_of}
 use Rattle.replay.specs.Entries.{EntriesAt}
-use Rattle.replay.proofs.EntryTable.{entries_none, entries_more}
+use Rattle.replay.proofs.EntryTable.{entries_more}
 use Rattle.replay.proofs.entries.read_tree.Goals as goal
-
-pub loop-slot-init : goal.loop-slot-init
-loop-slot-init g c = entries_none (g.F.ReadFlash.chip c.args.powered.now.flash.now) c.args.slots.now (nodes_of c.new-tree.result) (ap length c.new-tree.ensures)
 
 pub loop-slot-preserved : goal.loop-slot-preserved
 loop-slot-preserved g c =

@@ -22,8 +22,8 @@ returns-in_err-tree g c =
     let back = err_from_is_err_and c.from_residual.result c.from_residual.ensures.1 in
     subst (ScansSeen chip) (sym (back.1 ∙ ap Err (back.2 ∙ stop.0))) (refl, damaged chip c.args.seen.now c.requires.remembers c.requires.sizes.0 (no_tree stop.1))
 
-pub collect-slots-requires-clause-small : goal.collect-slots-requires-clause-small
-collect-slots-requires-clause-small g c = small_parts (g.F.ReadFlash.chip c.args.powered.now.flash.now) _ c.args.seen.now c.requires.remembers
+pub collect-slots-requires : goal.collect-slots-requires
+collect-slots-requires g c = small_parts (g.F.ReadFlash.chip c.args.powered.now.flash.now) _ c.args.seen.now c.requires.remembers
 
 pub returns-then-as_slice-key_limit : goal.returns-then-as_slice-key_limit
 returns-then-as_slice-key_limit g c =

@@ -1,4 +1,4 @@
-use Rattle.std.proofs.Common.{refl, Err, sym, ap, ◌∙◌, subst, arith}
+use Rattle.std.proofs.Common.{refl, Err, sym, ap, ◌∙◌, subst}
 use Rattle.std.proofs.lemmas.Result.{err_from_is_err_and}
 use Rattle.tree.specs.Table.{nodes_of}
 use Rattle.replay.specs.Damage.{many_entries, Trees}
@@ -9,8 +9,8 @@ use Rattle.replay.proofs.Told.{entries_in}
 use Rattle.replay.proofs.TreeShown.{entry_places, entry_files, tree_shown}
 use Rattle.replay.proofs.scanning.shown_tree.Goals as goal
 
-pub collect-found-requires-clause-small : goal.collect-found-requires-clause-small
-collect-found-requires-clause-small g c = small_parts (g.F.ReadFlash.chip c.args.powered.now.flash.now) _ c.args.pages.now.seen.now c.requires.remembers
+pub collect-found-requires : goal.collect-found-requires
+collect-found-requires g c = small_parts (g.F.ReadFlash.chip c.args.powered.now.flash.now) _ c.args.pages.now.seen.now c.requires.remembers
 
 pub returns-then-slots-gt-ENTRY_LIMIT : goal.returns-then-slots-gt-ENTRY_LIMIT
 returns-then-slots-gt-ENTRY_LIMIT g c =

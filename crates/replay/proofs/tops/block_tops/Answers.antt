@@ -1,5 +1,5 @@
 use Rattle.std.proofs.Common.{refl, ◌∙◌, arith, length-set}
-use Rattle.replay.proofs.Topping.{top_none, tops_on}
+use Rattle.replay.proofs.Topping.{tops_on}
 use Rattle.replay.proofs.Nothing.{nothing}
 use Rattle.replay.proofs.tops.block_tops.Goals as goal
 

@@ -1,7 +1,7 @@
 use Rattle.std.proofs.Common.{subst}
 use borrow.Author.Tests.{both_ways}
 use Rattle.replay.specs.Gathered.{Gathers}
-use Rattle.replay.proofs.Gathering.{from_idle, from_whole, from_part, gone_on, made_whole}
+use Rattle.replay.proofs.Gathering.{from_idle, from_whole, from_part}
 use Rattle.replay.proofs.group.Group.take.Goals as goal
 
 pub returns-then-not-follows : goal.returns-then-not-follows
@@ -9,18 +9,6 @@ returns-then-not-follows c =
     λ pages gathers.
     from_part c.args.page.now pages c.start.result c.in-Part.last c.in-Part.next c.in-Part.size c.start.ensures
     (λ f. both_ways c.follows.result c.if-not-follows.true (c.follows.ensures.1 f))
-    (subst (Gathers pages) c.in-Part.is gathers)
-
-pub returns-then-next-size : goal.returns-then-next-size
-returns-then-next-size c =
-    λ pages gathers.
-    made_whole c.args.page.now pages c.in-Part.last c.in-Part.next c.in-Part.size (c.follows.ensures.0 c.if-not-follows.false) c.if-next-size.true
-    (subst (Gathers pages) c.in-Part.is gathers)
-
-pub returns-else-next-size : goal.returns-else-next-size
-returns-else-next-size c =
-    λ pages gathers.
-    gone_on c.args.page.now pages c.in-Part.last c.in-Part.next c.in-Part.size (c.follows.ensures.0 c.if-not-follows.false) c.if-next-size.false
     (subst (Gathers pages) c.in-Part.is gathers)
 
 pub returns-in-Idle : goal.returns-in-Idle

@@ -1,6 +1,5 @@
-use Rattle.std.proofs.Common.{sym, subst}
+use Rattle.std.proofs.Common.{subst}
 use borrow.Author.Tests.{both_ways}
-use Rattle.replay.specs.Slots.{ShowsWanted}
 use Rattle.replay.proofs.Collecting.{shows_one_key}
 use Rattle.replay.proofs.pages.Pages.shows_wanted.Goals as goal
 

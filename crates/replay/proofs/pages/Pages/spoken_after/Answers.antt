@@ -1,10 +1,10 @@
-use Rattle.std.proofs.Common.{◌≡◌, ℕ, ◌+◌, ◌-◌, ◌<◌, Bool, false, length, get_or, Decides, rules, tests, sym, refl, ◌∙◌, subst, arith}
+use Rattle.std.proofs.Common.{◌≡◌, ℕ, ◌+◌, ◌-◌, ◌<◌, Bool, false, length, Decides, rules, tests, sym, refl, ◌∙◌, subst, arith}
 use Rattle.std.specs.List.{HoldsAt, range_with_len}
 use Rattle.std.proofs.lemmas.Bool.{false≢true}
 use Rattle.std.proofs.lemmas.Iterator.{cases_from_any, YieldsList-from_range}
 use Rattle.std.proofs.lemmas.List.FromFn.{get_or-range_with_len, length-range_with_len}
 use Rattle.replay.specs.Shows.{SpeaksAt}
-use Rattle.replay.proofs.Deciding.{decides_any}
+use Rattle.tree.proofs.Deciding.{it_is_some}
 use Rattle.replay.proofs.pages.Pages.spoken_after.Goals as goal
 
 -- what holds of some number from a on, below b
@@ -25,6 +25,6 @@ returns c =
     let pages = c.args.self.now in
     let P : ℕ → Type 0 = λ j. SpeaksAt pages.seen.now pages.whole.now pages.floor j c.args.key.now in
     in_range P _ c.args.i (length c.args.self.now.seen.now)
-    (decides_any P _ (range_with_len (c.args.i + 1) (length c.args.self.now.seen.now - (c.args.i + 1))) 0
+    (it_is_some P (range_with_len (c.args.i + 1) (length c.args.self.now.seen.now - (c.args.i + 1))) _ 0
     (cases_from_any _ _ _ P (λ j. P j → ⊥) c.any.ensures.ran (YieldsList-from_range (c.args.i + 1) (length c.args.self.now.seen.now) (length c.args.self.now.seen.now - (c.args.i + 1)) refl refl)
     (λ x q k. search (rules, tests)) (λ x q k. let d : Decides false (P x) = search (rules, tests) in (search (rules, tests), λ p. false≢true (d.1 p)))))
