@@ -8,7 +8,7 @@ pub trait Keyed {
 
     ghost keyed: { Self → Self.Key };
 
-    /// Whether the record has this key.
+    /// Whether the record has this key. Each kind says so: `==` of a type parameter would not tell that two keys are one.
     fn has(&self, key: &Self::Key) -> bool
         ensures { Decides result (keyed self.now ≡ key.now) };
 }

@@ -1,4 +1,5 @@
-// Records in rising order, and putting one between others.
+// Records in rising order, and putting one between others. How many of a slice's records count stands beside it:
+// its memory is lent, as there is no heap.
 ghost use Rattle.std.specs.Prelude.{◌≡◌, ℕ, ◌≤◌, length, take};
 ghost use Rattle.std.specs.Fn.{CalledAt};
 ghost use Rattle.std.specs.List.Retain.{IsFiltered};

@@ -5,7 +5,8 @@ ghost use Rattle.object_store.specs.declared.fault.ObjectFault.TheVariants.{Flas
 
 use flash::FlashFault;
 
-/// What an object store answers in place of what it was asked.
+/// What an object store answers in place of what it was asked. It is no case of what a scan answers, nor the other way
+/// round: a store need not stand on a chip, and a scan has a buffer to refuse.
 #[derive(Clone, Copy, PartialEq, Eq, Debug)]
 pub enum ObjectFault {
     /// The working page has not 256 bytes.

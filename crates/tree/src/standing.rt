@@ -33,6 +33,7 @@ impl Tree {
         if node.entry.directory == 0 {
             return true;
         }
+        // No `is_some_and`: a closure that leads back to its function needs clauses of its own.
         match self.directory(node.entry.directory) {
             Some(directory) => self.stands(&directory, names - 1),
             None => false,

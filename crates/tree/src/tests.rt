@@ -3,9 +3,7 @@ use page::{Entry, EntryKind, Name};
 use std::test::Fail;
 
 fn entry(directory: u32, kind: EntryKind, name: &[u8]) -> Result<Entry, Fail> {
-    let Some(name) = Name::new(name) else {
-        return Err(Fail::new("a plain name is allowed"));
-    };
+    let name = Name::new(name).ok_or("a plain name is allowed")?;
     Ok(Entry {
         directory,
         kind,
