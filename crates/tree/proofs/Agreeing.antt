@@ -1,9 +1,9 @@
 -- Two ways to have the same entries: what is said of the one is said of the other.
-use Rattle.std.proofs.Common.{ℕ, Ok, Err, Result}
+use Rattle.std.proofs.Common.{ℕ, Some, None, Option, Ok, Err, Result}
 use Rattle.page.specs.declared.fields.Entry.{Entry}
 use Rattle.tree.specs.declared.sound.TreeFault.{TreeFault}
 use Rattle.tree.specs.declared.sound.TreeFault.TheVariants as fault
-use Rattle.tree.specs.Sound.{Checks}
+use Rattle.tree.specs.Sound.{Checks, Faults}
 use Rattle.tree.specs.Tree.{Entries, Rooted, Unreached, Namesakes}
 use Rattle.tree.proofs.Paths.{stands_more}
 
@@ -28,7 +28,11 @@ module _ (E F : Entries) (there : (f : ℕ) (e : Entry) → E f e → F f e) (ba
     alike = n.alike;
   }
 
+pub faults_same : (E F : Entries) → ((f : ℕ) (e : Entry) → E f e → F f e) → ((f : ℕ) (e : Entry) → F f e → E f e) → (r : Option TreeFault) → Faults E r → Faults F r
+faults_same E F there back None says = (rooted_same E F there back says.0, λ n. says.1 (namesakes_same F E back there n))
+faults_same E F there back (Some fault.Unreached) says = unreached_same E F there back says
+faults_same E F there back (Some fault.Namesakes) says = (rooted_same E F there back says.0, namesakes_same E F there back says.1)
+
 pub checks_same : (E F : Entries) → ((f : ℕ) (e : Entry) → E f e → F f e) → ((f : ℕ) (e : Entry) → F f e → E f e) → (r : Result (Unit {0}) TreeFault) → Checks E r → Checks F r
-checks_same E F there back (Ok u) says = (rooted_same E F there back says.0, λ n. says.1 (namesakes_same F E back there n))
-checks_same E F there back (Err fault.Unreached) says = unreached_same E F there back says
-checks_same E F there back (Err fault.Namesakes) says = (rooted_same E F there back says.0, namesakes_same E F there back says.1)
+checks_same E F there back (Ok u) says = faults_same E F there back None says
+checks_same E F there back (Err why) says = faults_same E F there back (Some why) says

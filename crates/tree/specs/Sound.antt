@@ -29,8 +29,13 @@ Repeated nodes at = (j : ℕ) × (at < j) × (j < length nodes) × ((d : Node) �
 abbrev pub Repeats : List Node → Type 0
 Repeats nodes = (at : ℕ) × (at < length nodes) × Repeated nodes at
 
+-- the first fault of the entries; none where they are a tree
+abbrev pub Faults : Entries → Option TreeFault → Type 0
+Faults E None = Rooted E × (Namesakes E → ⊥)
+Faults E (Some fault.Unreached) = Unreached E
+Faults E (Some fault.Namesakes) = Rooted E × Namesakes E
+
 -- the entries are a tree, or this is their first fault
 abbrev pub Checks : Entries → Result (Unit {0}) TreeFault → Type 0
-Checks E (Ok _) = Rooted E × (Namesakes E → ⊥)
-Checks E (Err fault.Unreached) = Unreached E
-Checks E (Err fault.Namesakes) = Rooted E × Namesakes E
+Checks E (Ok _) = Faults E None
+Checks E (Err why) = Faults E (Some why)

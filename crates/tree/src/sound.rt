@@ -1,5 +1,5 @@
 // What is wrong with a table.
-ghost use Rattle.tree.specs.Sound.{Checks};
+ghost use Rattle.tree.specs.Sound.{Checks, Faults};
 ghost use Rattle.tree.specs.Table.{nodes_of};
 ghost use Rattle.tree.specs.Tree.{Among};
 
@@ -26,5 +26,12 @@ impl Tree {
             return Err(TreeFault::Namesakes);
         }
         Ok(())
+    }
+
+    /// The first fault; none where every entry stands at a path and no directory has two of one name.
+    pub fn fault(&self) -> Option<TreeFault>
+        ensures { Faults (Among (nodes_of self.now)) result }
+    {
+        self.check().err()
     }
 }

@@ -21,7 +21,7 @@ fn entries_come_by_file_number(rt: HostRuntime) -> Result<(), Fail> {
     assert!(rt; nodes.len() == 2);
     assert_eq!(rt; nodes[0].file, 4);
     assert_eq!(rt; nodes[1].file, 9);
-    assert_eq!(rt; tree.check(), Ok(()));
+    assert_eq!(rt; tree.fault(), None);
     Ok(())
 }
 
@@ -30,7 +30,7 @@ fn a_file_holds_no_entry(rt: HostRuntime) -> Result<(), Fail> {
     let mut tree = Tree::new();
     let _ = tree.add(4, entry(0, EntryKind::File, b"cal")?);
     let _ = tree.add(9, entry(4, EntryKind::File, b"arc")?);
-    assert_eq!(rt; tree.check(), Err(TreeFault::Unreached));
+    assert_eq!(rt; tree.fault(), Some(TreeFault::Unreached));
     Ok(())
 }
 
@@ -39,6 +39,6 @@ fn a_file_and_a_directory_share_no_name(rt: HostRuntime) -> Result<(), Fail> {
     let mut tree = Tree::new();
     let _ = tree.add(4, entry(0, EntryKind::File, b"cal")?);
     let _ = tree.add(9, entry(0, EntryKind::Directory, b"cal")?);
-    assert_eq!(rt; tree.check(), Err(TreeFault::Namesakes));
+    assert_eq!(rt; tree.fault(), Some(TreeFault::Namesakes));
     Ok(())
 }

@@ -5,4 +5,4 @@
 
 mod guard;
 
-pub use guard::Guard;
+pub use guard::{ArrayGuard, Guard};
