@@ -2,23 +2,12 @@
 use Rattle.std.proofs.Common.{◌≡◌, ℕ, ◌+◌, ◌⊎◌, List, get_or, sym, ap, ◌∙◌, subst, inl, inr, arith}
 use native.Mathlib.Decide.{ℕ_discrete}
 use Rattle.object.specs.declared.key.Key.{Key}
-use Rattle.planner.specs.Order.{Rising}
 use Rattle.planner.specs.Slots.{Holds, Put, Forgets}
 use Rattle.planner.specs.Written.{Speaks, Silent, slot_at, ByPage, Written, Said}
 use Rattle.planner.proofs.Limits.{below_one}
 use Rattle.planner.specs.declared.says.Says.{Says}
 use Rattle.planner.specs.declared.says.Says.TheVariants.{Tells, Gone}
 use Rattle.planner.specs.Order.{Slot}
-
-pub written_none : (xs : List Slot) (pages : List Says) (b u n : ℕ) → Rising xs → Written xs pages b u n 0 xs
-written_none xs pages b u n r =
-    record {
-      rising = r;
-      kept = λ x h s. h;
-      told = λ x j p. absurd (omega (arith, p.real));
-      only = λ x h. inl (h, λ j d l m. absurd (omega arith));
-      long = omega arith;
-    }
 
 module _ (xs : List Slot) (pages : List Says) (b u n m : ℕ) (ys : List Slot) (w : Written xs pages b u n m ys) where
   fewer : (i : ℕ) (k : Key) → Silent pages i (m + 1) k → Silent pages i m k

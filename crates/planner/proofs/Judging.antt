@@ -3,7 +3,6 @@ use Rattle.std.proofs.Common.{ℕ, ◌<◌, ◌≤◌, length, Bool, Decides, re
 use Rattle.planner.specs.State.{Sound, Free}
 use Rattle.planner.specs.Mountable.{found, Sized, Placed, Agree, Mountable}
 use Rattle.planner.specs.Slots.{listed}
-use Rattle.planner.proofs.Limits.{limit_most}
 use Rattle.planner.specs.declared.scanned.Scanned.{Scanned}
 
 pub judged_sound : (x : Scanned) → Sized (found x) → ((b : ℕ) → b < x.blocks → (found x).high b ≤ x.last) → ((k : ℕ) → k < length (listed x.slots) → Placed (found x) k)
@@ -33,6 +32,3 @@ judged_sound x sized last placed agree =
 pub judged : (x : Scanned) → Sized (found x) → ((b : ℕ) → b < x.blocks → (found x).high b ≤ x.last) → ((k : ℕ) → k < length (listed x.slots) → Placed (found x) k)
     → ((j : ℕ) → j < length (listed x.slots) → (k : ℕ) → k < length (listed x.slots) → Agree (found x) j k) → (r : Bool) → Decides r ((b : ℕ) × Free (found x) b) → Decides r (Mountable (found x))
 judged x sized last placed agree r free = (λ e. (judged_sound x sized last placed agree, sized.slim, sized.small, free.0 e), λ m. free.1 m.3)
-
-pub judged_few : (x : Scanned) → Sound (found x) → x.per_block ≤ 16 → x.blocks ≤ 16 → length (listed x.slots) ≤ 208
-judged_few x w l m = omega (arith, w.room, limit_most x.per_block x.blocks l m)

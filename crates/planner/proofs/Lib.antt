@@ -25,4 +25,3 @@ pub mod Rounds
 pub mod Committing
 pub mod Counts
 pub mod Judging
-pub mod Fresh

@@ -2,14 +2,8 @@ use Rattle.std.proofs.Common.{◌≡◌, ◌+◌, length, get_or, subst, arith}
 use Rattle.std.proofs.lemmas.List.{get_or_default}
 use Rattle.planner.specs.Slots.{listed}
 use Rattle.planner.specs.Written.{Written}
-use Rattle.planner.proofs.Firsts.{the_rising}
-use Rattle.planner.proofs.Batches.{written_none, written_more}
+use Rattle.planner.proofs.Batches.{written_more}
 use Rattle.planner.proofs.batch.written.Goals as goal
-
-pub loop-j-init : goal.loop-j-init
-loop-j-init c =
-    let h = c.args.head in
-    written_none (listed c.args.slots) c.args.pages.now h.block h.used (c.args.last + 1) (the_rising c.args.slots)
 
 pub loop-j-preserved : goal.loop-j-preserved
 loop-j-preserved c =
