@@ -19,6 +19,16 @@ use Rattle.flash.proofs.Images.{final_long, image_programmed, image_erased, imag
 use Rattle.flash.proofs.Pasting.{drop_paste}
 use Rattle.flash.proofs.Refusals.{Answer, image}
 
+-- what an operation that went on leaves
+module _ (xs s : List ℕ) (at : ℕ) (fuse : Fuse) (on within : Bool) (up : on ≡ true) (inside : within ≡ true) where
+  pub left_is : (j : Image) → left_by (image xs on fuse) within j ≡ j
+  left_is j = ap (λ b. cond b (cond within j (image xs on fuse)) (image xs on fuse)) up ∙ ap (λ b. cond b j (image xs on fuse)) inside
+
+  pub put_is : image (paste xs at s (reach_of fuse (length s))) (cond (blows_at fuse) false on) (burnt_of fuse) ≡ left_by (image xs on fuse) within (put (image xs on fuse) at s)
+  put_is =
+      ap (λ b. image (paste xs at s (reach_of fuse (length s))) b (burnt_of fuse)) (power_left (blows_at fuse) on up)
+      ∙ sym (left_is (put (image xs on fuse) at s))
+
 -- `s` is put at the byte `at` of an image that is on, and the place is within it; where power stays, the chip is `done`
 record Put (xs s : List ℕ) (at len : ℕ) (on within : Bool) (done : Chip) : Type 0 where
   long : length s ≡ len
@@ -44,9 +54,7 @@ module _ {xs s : List ℕ} {at len : ℕ} {on within : Bool} {done : Chip} (p : 
   after_is : after ≡ left_by (image xs on fuse) within (put (image xs on fuse) at s)
   after_is =
       ap (λ n. image (paste xs at s (reach_of fuse n)) (cond (blows_at fuse) false on) (burnt_of fuse)) (sym p.long)
-      ∙ ap (λ b. image (paste xs at s (reach_of fuse (length s))) b (burnt_of fuse)) (power_left (blows_at fuse) on p.up)
-      ∙ sym (ap (λ b. cond b (cond within (put (image xs on fuse) at s) (image xs on fuse)) (image xs on fuse)) p.up
-      ∙ ap (λ b. cond b (put (image xs on fuse) at s) (image xs on fuse)) p.inside)
+      ∙ put_is xs s at fuse on within p.up p.inside
 
   unused_is : (m : ℕ) → at + len ≤ m → drop m left ≡ drop m xs
   unused_is m past =

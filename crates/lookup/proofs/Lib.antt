@@ -3,3 +3,4 @@ pub mod Putting
 pub mod Retaining
 pub mod Rotating
 pub mod Thinning
+pub mod Sorting

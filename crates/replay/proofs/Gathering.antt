@@ -1,9 +1,9 @@
 -- A page that begins anew.
-use Rattle.std.proofs.Common.{◌≡◌, ℕ, zero, suc, ◌+◌, ◌≤◌, List, [], ◌∷◌, sym, ap, ◌∙◌, subst, arith}
+use Rattle.std.proofs.Common.{◌≡◌, ℕ, zero, suc, ◌+◌, ◌<◌, ◌≤◌, List, [], ◌∷◌, sym, refl, ap, ◌∙◌, subst, arith}
 use Rattle.page.specs.declared.fields.Header.{Header}
 use Rattle.replay.specs.declared.group.Group.{Group}
 use Rattle.replay.specs.declared.group.Group.TheVariants.{Idle, Part, Whole}
-use Rattle.replay.specs.Gathered.{Follows, Run, Gathers, Starts}
+use Rattle.replay.specs.Gathered.{Follows, Run, NewestIs, Gathers, Starts}
 
 -- the newest page tells how long the run is, and of what size the group
 pub newest_run : (k size : ℕ) (h : Header) (pages : List Header) → Run k size (h ∷ pages) → (k ≡ h.index + 1) × (h.size ≡ size)
@@ -11,6 +11,14 @@ newest_run zero size h pages r = absurd r
 newest_run (suc zero) size h pages r = (omega (arith, r.0), r.1)
 newest_run (suc (suc k)) size h [] r = absurd r
 newest_run (suc (suc k)) size h (g ∷ pages) r = (omega (arith, r.0), r.1)
+
+-- a page that goes on with a run of k pages
+run_more : (k size last : ℕ) (h : Header) (pages : List Header) → Run k size pages → NewestIs last pages → Follows h last k size → Run (k + 1) size (h ∷ pages)
+run_more k size last h [] r newest f = absurd newest
+run_more zero size last h (g ∷ pages) r newest f = absurd r
+run_more (suc k) size last h (g ∷ pages) r newest f =
+    let e : suc (suc k) ≡ suc k + 1 = omega arith in
+    subst (λ i. Run i size (h ∷ (g ∷ pages))) e (f.indexed, f.sized, f.numbered ∙ ap (λ n. n + 1) newest, r)
 
 -- no run of two or more pages ends with this page
 abbrev NoneLonger : Header → List Header → Type 0
@@ -62,3 +70,14 @@ from_whole h pages g full s whole = begun h pages g s (longer_whole h pages full
 
 pub from_part : (h : Header) (pages : List Header) (g : Group) (last next full : ℕ) → Starts h g → (Follows h last next full → ⊥) → Gathers pages (Part last next full) → Gathers (h ∷ pages) g
 from_part h pages g last next full s no-page part = begun h pages g s (longer_part h pages last next full part no-page)
+
+-- a page that follows takes the group on, or makes it whole
+pub gone_on : (h : Header) (pages : List Header) (last next full : ℕ) → Follows h last next full → (next + 1 ≡ full → ⊥) → Gathers pages (Part last next full) → Gathers (h ∷ pages) (Part h.number (next + 1) full)
+gone_on h pages last next full f more part = (run_more next full last h pages part.0 part.2 f, less next full f.more more, refl)
+  where
+    less : (a b : ℕ) → a < b → (a + 1 ≡ b → ⊥) → a + 1 < b
+    less a b lt ne = omega arith
+
+pub made_whole : (h : Header) (pages : List Header) (last next full : ℕ) → Follows h last next full → next + 1 ≡ full → Gathers pages (Part last next full) → Run h.size h.size (h ∷ pages)
+made_whole h pages last next full f e part =
+    subst (λ s. Run s s (h ∷ pages)) (sym f.sized) (subst (λ k. Run k full (h ∷ pages)) e (run_more next full last h pages part.0 part.2 f))

@@ -1,5 +1,5 @@
 -- The remembered pages, one place further.
-use Rattle.std.proofs.Common.{◌≡◌, ℕ, ◌+◌, ◌<◌, ◌≤◌, true, ◌⊎◌, List, length, get_or, IfOk, Ok, Err, Result, sym, ap, ◌∙◌, subst, inl, inr, arith}
+use Rattle.std.proofs.Common.{◌≡◌, ℕ, ◌+◌, ◌<◌, ◌≤◌, true, ◌⊎◌, List, [], length, get_or, IfOk, Ok, Err, Result, sym, ap, ◌∙◌, subst, inl, inr, arith}
 use native.Mathlib.Decide.{ℕ_discrete}
 use Rattle.std.specs.List.{insert}
 use Rattle.lookup.proofs.Insertion.{At, before, itself, later, which, stays, stands, rising_inserted, long}
@@ -17,6 +17,16 @@ use Rattle.replay.specs.Log.{Logged, LogOf, number_of}
 use Rattle.lookup.specs.Sorts.{InPlace}
 use Rattle.replay.specs.Seen.{seen_of, seen_number}
 use Rattle.replay.specs.Remembers.{Remembers, TakesIn, Twice, Unreadable}
+
+-- nothing is remembered of no page
+pub remembers_none : (c : Chip) → Remembers c 0 []
+remembers_none c =
+    record {
+      each = λ i d h. absurd (omega arith);
+      all = λ p here low. absurd (omega arith);
+      rising = λ i j d lt h. absurd (omega arith);
+      readable = λ q h e. omega arith;
+    }
 
 -- the page at the next place is none
 pub remembers_skip : (c : Chip) (m : ℕ) (xs : List Seen) → decoded (page c m) ≡ Err NotData → Remembers c m xs → Remembers c (m + 1) xs
