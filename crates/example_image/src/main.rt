@@ -3,20 +3,16 @@
 
 #![tactic(auto)]
 
-use flash::{Fuse, ImageFlash};
+use flash::{Fuse, IMAGE_BLOCK_BYTES, ImageFlash};
 use images::{torn_last_page, write};
 use std::io::Write;
 
-const IMAGE_BYTES: usize = 16384;
+const IMAGE_BYTES: usize = 4 * IMAGE_BLOCK_BYTES;
 
-fn run(rt: &HostRuntime) -> anyhow::Result<()> {
+fn main(rt: HostRuntime) -> anyhow::Result<()> {
     let mut image = vec![in rt.alloc(); 0xffu8; IMAGE_BYTES]?;
     let mut flash = ImageFlash::new(&mut image, Fuse::Intact);
     write(&mut flash, &torn_last_page())?;
     rt.stdout().write_all(flash.bytes())?;
     Ok(())
-}
-
-fn main(rt: HostRuntime) -> anyhow::Result<()> {
-    run(&rt)
 }

@@ -9,6 +9,7 @@ use crate::traits::{MOST_BLOCKS, PAGE_BYTES};
 
 pub const IMAGE_PAGES_PER_BLOCK: usize = 16;
 
+/// Bytes in a block of an image or a dump.
 pub const IMAGE_BLOCK_BYTES: usize = IMAGE_PAGES_PER_BLOCK * PAGE_BYTES;
 
 // How many blocks so many bytes make.

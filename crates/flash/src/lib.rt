@@ -13,6 +13,7 @@ mod image;
 mod joined;
 mod traits;
 
+pub use bytes::IMAGE_BLOCK_BYTES;
 pub use dump::DumpFlash;
 pub use fault::FlashFault;
 pub use fuse::Fuse;

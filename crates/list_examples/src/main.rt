@@ -2,7 +2,7 @@
 
 #![tactic(auto)]
 
-use flash::{Fuse, ImageFlash};
+use flash::{Fuse, IMAGE_BLOCK_BYTES, ImageFlash};
 use images::{
     Placed, at, bad_names, below_the_floor, chunk_at_the_end, chunk_of_a_directory,
     cut_short_group, directories_in_a_ring, directory_is_a_file, directory_missing,
@@ -15,10 +15,8 @@ use images::{
 use listing::{LISTING_BYTES, put_answer};
 use std::io::Write;
 
-const BLOCK_BYTES: usize = 4096;
-
 fn show(rt: &HostRuntime, name: &str, blocks: usize, pages: &[Placed]) -> anyhow::Result<()> {
-    let mut image = vec![in rt.alloc(); 0xffu8; blocks.saturating_mul(BLOCK_BYTES)]?;
+    let mut image = vec![in rt.alloc(); 0xffu8; blocks.saturating_mul(IMAGE_BLOCK_BYTES)]?;
     let mut flash = ImageFlash::new(&mut image, Fuse::Intact);
     write(&mut flash, pages)?;
     let mut text = [0; LISTING_BYTES];
@@ -78,11 +76,7 @@ fn show_foreign(rt: &HostRuntime) -> anyhow::Result<()> {
 }
 
 fn show_damaged_pages(rt: &HostRuntime) -> anyhow::Result<()> {
-    for (name, page) in fields_out_of_range() {
-        show(rt, name, 4, &[page])?;
-        show(rt, "below the floor", 4, &below_the_floor(page))?;
-    }
-    for (name, page) in bad_names() {
+    for (name, page) in fields_out_of_range().into_iter().chain(bad_names()) {
         show(rt, name, 4, &[page])?;
         show(rt, "below the floor", 4, &below_the_floor(page))?;
     }
@@ -125,14 +119,10 @@ fn show_refused(rt: &HostRuntime) -> anyhow::Result<()> {
     )
 }
 
-fn run(rt: &HostRuntime) -> anyhow::Result<()> {
-    show_stored(rt)?;
-    show_foreign(rt)?;
-    show_damaged_pages(rt)?;
-    show_damaged(rt)?;
-    show_refused(rt)
-}
-
 fn main(rt: HostRuntime) -> anyhow::Result<()> {
-    run(&rt)
+    show_stored(&rt)?;
+    show_foreign(&rt)?;
+    show_damaged_pages(&rt)?;
+    show_damaged(&rt)?;
+    show_refused(&rt)
 }

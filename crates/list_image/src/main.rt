@@ -7,15 +7,11 @@ use flash::DumpFlash;
 use listing::{LISTING_BYTES, put_answer};
 use std::io::{Read, Write};
 
-fn run(rt: &HostRuntime) -> anyhow::Result<()> {
+fn main(rt: HostRuntime) -> anyhow::Result<()> {
     let mut image = Vec::new(rt.alloc());
     rt.stdin().read_to_end(&mut image)?;
     let mut text = [0; LISTING_BYTES];
     let end = put_answer(&DumpFlash::new(&image), &mut text);
     rt.stdout().write_all(&text[0..end])?;
     Ok(())
-}
-
-fn main(rt: HostRuntime) -> anyhow::Result<()> {
-    run(&rt)
 }

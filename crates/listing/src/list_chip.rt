@@ -7,7 +7,7 @@ ghost use Rattle.work_page.specs.Lent.{Lent, Returned, ones};
 use crate::lines::{LISTING_BYTES, write_listing};
 use flash::{PAGE_BYTES, ReadFlash};
 use replay::{ReplayFault, scan};
-use work_page::ArrayGuard;
+use work_page::PageGuard;
 
 // The listing, once the working page has its size; nothing that was read stays in it.
 fn list_page<F: ReadFlash>(
@@ -18,7 +18,7 @@ fn list_page<F: ReadFlash>(
     ensures answer { ListsChip (F.ReadFlash.chip flash.now) buffer.old result buffer.new }
     ensures page { page.new ≡ ones 256 }
 {
-    let guard = ArrayGuard(page);
+    let guard = PageGuard(page);
     if buffer.len() < LISTING_BYTES {
         return Err(ReplayFault::Buffer);
     }

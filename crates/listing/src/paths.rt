@@ -1,5 +1,5 @@
-// Paths, from the root down. That the tree has the entry is asked of each function and not kept in a struct with the
-// two: it says at which place, so it is no proposition, and a ghost field has to be one.
+// Paths, from the root down. That the tree has the entry, at some place, is asked of each function. Tried as a ghost field
+// of a struct with the two, it has to be a proposition, and truncated to one the place can't be taken out again.
 ghost use Rattle.std.specs.Prelude.{◌+◌, ◌*◌, ◌≤◌, length};
 ghost use Rattle.listing.specs.Writes.{Above, AddsPath};
 ghost use Rattle.tree.specs.Table.{nodes_of};

@@ -1,4 +1,5 @@
-// Lent memory that is written from its start on.
+// Lent memory that is written from its start on. Not the library's `Cursor`, whose writes may come short where room is
+// asked for here, and no `fmt::Write`: a name is bytes and no `str`.
 
 /// The memory, and how much of it is written.
 #[derive(Drop)]

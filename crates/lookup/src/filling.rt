@@ -37,7 +37,8 @@ impl<R: Ranked + Copy, const N: usize> Table<R, N> {
         Ok(())
     }
 
-    // Where the record with this rank is.
+    // Where the record with this rank is. A walk: a binary search finds it no plainer, since its answer is the
+    // record's place only once the order is shown.
     fn find_rank(&self, rank: u64) -> Option<usize>
         ensures { Found R.Ranked.ranked (rows self.now) rank result }
     {

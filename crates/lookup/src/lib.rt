@@ -1,5 +1,5 @@
-//! Tables without a heap: one search, written once for any record with a key, and one way to put a
-//! record between others. Keys of objects, tree entries and handles are all found by it.
+//! Tables without a heap: one search, written once for any record with a key, one way to put a record
+//! between others, and one table in rising order. Keys of objects, slots and tree entries are all kept by it.
 
 #![tactic(auto)]
 

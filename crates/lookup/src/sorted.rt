@@ -1,12 +1,12 @@
 // Records in rising order, and putting one between others. How many of a slice's records count stands beside it:
-// its memory is lent, as there is no heap.
+// its memory is lent, as there is no heap, and who lends it keeps the number.
 ghost use Rattle.std.specs.Prelude.{◌≡◌, ℕ, ◌≤◌, length, take};
 ghost use Rattle.std.specs.Fn.{CalledAt};
 ghost use Rattle.std.specs.List.Retain.{IsFiltered};
 ghost use Rattle.lookup.specs.Inserts.{Inserts, Leads};
 ghost use Rattle.lookup.specs.Sorts.{Sorts};
 
-/// A record that has a place in an order.
+/// A record that has a place in an order. A number and no `Ord`: then "rises" is `<` on numbers wherever it is said.
 pub trait Ranked {
     ghost ranked: { Self → ℕ };
 

@@ -19,7 +19,7 @@ use crate::tops::block_tops;
 use crate::wants::EntryKeys;
 use flash::{PAGE_BYTES, ReadFlash};
 use tree::{ENTRY_LIMIT, Tree};
-use work_page::ArrayGuard;
+use work_page::PageGuard;
 
 /// The fewest blocks of a chip that is shown.
 const LEAST_BLOCKS: usize = 4;
@@ -116,7 +116,7 @@ fn scan_page<F: ReadFlash>(flash: &F, page: &mut [u8; PAGE_BYTES]) -> Result<Sca
     ensures answer { Scans (F.ReadFlash.chip flash.now) result }
     ensures page { page.new ≡ ones 256 }
 {
-    let guard = ArrayGuard(page);
+    let guard = PageGuard(page);
     read_chip(flash, guard.0)
 }
 

@@ -14,16 +14,14 @@ impl Drop for Guard<'_> {
     }
 }
 
-/// The same of memory whose length is in its type.
-pub struct ArrayGuard<'a, const N: usize>(pub &'a mut [u8; N]);
+/// The same of a whole working page.
+pub struct PageGuard<'a>(pub &'a mut [u8; 256]);
 
-impl<const N: usize> Drop for ArrayGuard<'_, N> {
+impl Drop for PageGuard<'_> {
     fn drop(self)
-        ensures { self.exit.0.now ≡ ones N }
+        ensures { self.exit.0.now ≡ ones 256 }
     {
-        // Not by `Guard`: an array of any length is no slice.
-        let ones = [0xff; N];
-        *self.0 = ones;
-        let ArrayGuard(_) = self;
+        let PageGuard(page) = self;
+        drop(Guard(page));
     }
 }

@@ -5,4 +5,4 @@
 
 mod guard;
 
-pub use guard::{ArrayGuard, Guard};
+pub use guard::{PageGuard, Guard};
