@@ -3,6 +3,7 @@ pub mod Changes
 pub mod Objects
 pub mod Faults
 pub mod Fit
+pub mod Judged
 pub mod Counts
 pub mod Settled
 pub mod Edits

@@ -11,7 +11,7 @@ use crate::edit::{drop_removed, put_record};
 use crate::kept::Kept;
 use crate::table_store::TableStore;
 
-impl<'a> TableStore<'a> {
+impl TableStore<'_> {
     // Puts in the key that the change sets, unless the batch removes its file.
     fn settle(&mut self, changes: &[Change], change: &Change)
         ensures { HoldsNow self.old.places.now (settle_spec changes.now (take self.old.len self.old.places.now) change.now) self.new.len self.new.places.now }

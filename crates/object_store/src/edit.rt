@@ -19,7 +19,8 @@ pub fn put_record<R: OfKey + Copy>(records: &mut [R], len: usize, new: R) -> usi
     }
     let key = new.key();
     let rank = key.rank();
-    // Not `leading` of lookup: to ask that these records are `Ranked` would ask more of callers.
+    // Not `leading` of lookup: to ask that these records are `Ranked` would ask more of callers, and a rank passed as a
+    // closure takes more clauses than this chain.
     let at = records[..len]
         .iter()
         .position(|record| record.key().rank() >= rank)
@@ -31,6 +32,7 @@ pub fn put_record<R: OfKey + Copy>(records: &mut [R], len: usize, new: R) -> usi
         records[at] = new;
         return len;
     }
+    // The number tells a refusal too: callers know it by that.
     match insert_at(records, len, at, new) {
         Ok(()) => len + 1,
         Err(_) => len,

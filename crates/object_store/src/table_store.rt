@@ -76,7 +76,7 @@ impl<'a> TableStore<'a> {
     }
 }
 
-impl<'a> ObjectStore for TableStore<'a> {
+impl ObjectStore for TableStore<'_> {
     ghost whole = { λ s. TableWhole s.places.now s.len };
 
     ghost shelf = { λ s. table_shelf s.places.now s.len };
