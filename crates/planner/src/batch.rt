@@ -8,6 +8,7 @@ use crate::says::Says;
 use crate::slot::{Place, Slot};
 use crate::slots::Slots;
 
+// As many as `page::GROUP_LIMIT`: the planner knows keys and no pages.
 /// The most pages of a batch.
 pub const BATCH_PAGES: usize = 4;
 
