@@ -14,13 +14,8 @@ impl Slots {
     pub fn new() -> Slots
         ensures { listed result ≡ [] }
     {
-        let blank = Slot {
-            key: Key { file: 0, part: 0 },
-            place: Place { block: 0, index: 0 },
-            number: 0,
-        };
         Slots {
-            table: Table::new(blank),
+            table: Table::new(Slot::default()),
         }
     }
 

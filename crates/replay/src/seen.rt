@@ -15,7 +15,7 @@ pub enum Says {
 }
 
 /// A data page, without the bytes that it holds.
-#[derive(Clone, Copy, PartialEq, Eq, Debug)]
+#[derive(Clone, Copy, PartialEq, Eq, Debug, Default)]
 pub struct Seen {
     pub place: usize,
     pub header: Header,
