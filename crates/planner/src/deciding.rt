@@ -6,7 +6,6 @@ ghost use Rattle.planner.specs.Steps.{state, Next, Turn};
 use crate::batch::is_group;
 use crate::free::Spares;
 use crate::head::Phase;
-use crate::numbers::SPENT_ABOVE;
 use crate::steps::Step;
 use crate::tables::Tables;
 
@@ -27,7 +26,7 @@ impl Tables {
         if self.has_left(g) {
             return Step::Ready;
         }
-        if self.last > SPENT_ABOVE {
+        if self.is_spent() {
             return Step::Spent;
         }
         match self.first_free() {

@@ -11,7 +11,7 @@ pub struct Scanned {
     pub per_block: u8,
     pub blocks: u8,
     pub slots: Slots,
-    /// As long as the largest chip wants it: there is no heap.
+    /// As long as the largest chip wants it: there is no heap. 0 is no page's number, so it needs no `Option`.
     pub high: [u32; BLOCK_LIMIT],
     pub floor: u32,
     pub last: u32,
