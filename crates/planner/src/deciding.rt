@@ -1,6 +1,5 @@
 // Which step comes next.
 ghost use Rattle.std.specs.Prelude.{◌≡◌, ℕ, ◌+◌, ◌^◌, ◌<◌, ◌≤◌, Decides, ◌≢◌};
-ghost use Rattle.planner.specs.Shape.{spent_above};
 ghost use Rattle.planner.specs.Steps.{state, Next, Turn};
 
 use crate::batch::is_group;

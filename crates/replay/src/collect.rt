@@ -37,8 +37,7 @@ impl Pages<'_> {
         requires { i < length self.now.seen.now }
         ensures { ShowsWanted self.now.seen.now self.now.whole.now self.now.floor i (W.Wants.wanted wants.now) result }
     {
-        let key = self.shows(i)?;
-        if wants.wants(&key) { Some(key) } else { None }
+        self.shows(i).filter(|key| wants.wants(key))
     }
 
     // The wanted keys of those that are shown, in rising order.

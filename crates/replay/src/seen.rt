@@ -7,7 +7,7 @@ use lookup::Ranked;
 use object::Key;
 use page::{Content, Header, Page};
 
-/// What a page says to a slot.
+/// What a page says to a slot. (Not planner's `Says`: there a page removes all keys of a file, here it speaks to one slot.)
 #[derive(Clone, Copy, PartialEq, Eq, Debug)]
 pub enum Says {
     Sets(Key),
