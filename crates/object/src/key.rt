@@ -5,7 +5,7 @@ ghost use Rattle.object.specs.Rank.{key_rank};
 use lookup::Keyed;
 
 /// The entry of a file, or one of its chunks.
-#[derive(Clone, Copy, PartialEq, Eq, Debug)]
+#[derive(Clone, Copy, PartialEq, Eq, Debug, Default)]
 pub struct Key {
     /// The file number, 1 or more.
     pub file: u32,

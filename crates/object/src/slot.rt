@@ -5,7 +5,7 @@ use crate::key::Key;
 use lookup::{Keyed, Ranked};
 
 /// A key, with the place of the page that tells it and that page's number.
-#[derive(Clone, Copy)]
+#[derive(Clone, Copy, Default)]
 pub struct Slot<P> {
     pub key: Key,
     pub place: P,

@@ -3,7 +3,7 @@ use crate::layout::CHUNK_BYTES;
 use crate::names::Name;
 
 /// What every data page begins with.
-#[derive(Clone, Copy, PartialEq, Eq, Debug)]
+#[derive(Clone, Copy, PartialEq, Eq, Debug, Default)]
 pub struct Header {
     /// The page's place in its group, from 0.
     pub index: u8,

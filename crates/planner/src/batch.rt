@@ -8,6 +8,7 @@ use crate::says::Says;
 use crate::slot::{Place, Slot};
 use crate::slots::Slots;
 
+// As many as `page::GROUP_LIMIT`: the planner knows keys and no pages.
 /// The most pages of a batch.
 pub const BATCH_PAGES: usize = 4;
 
@@ -25,6 +26,7 @@ fn say(slots: &mut Slots, page: Says, place: Place, number: u32)
 {
     match page {
         Says::Tells(key) => {
+            // Never refused: a place is free.
             let _ = slots.put(Slot { key, place, number });
         }
         Says::Gone(file) => slots.forget(file),
@@ -32,17 +34,16 @@ fn say(slots: &mut Slots, page: Says, place: Place, number: u32)
 }
 
 // The slots after the pages, which are written to the head after the last number.
-pub(crate) fn written(slots: Slots, pages: &[Says], head: Head, last: u32) -> Slots
+pub(crate) fn written(mut slots: Slots, pages: &[Says], head: Head, last: u32) -> Slots
     requires few { length (listed slots) ≤ 208 }
     requires pages { length pages.now ≤ 4 }
     requires used { head.used ≤ 16 }
     requires fits { last + 4 < 2 ^ 32 }
     ensures { Written (listed slots) pages.now head.block head.used (last + 1) (length pages.now) (listed result) }
 {
-    let mut after = slots;
     for (j, page) in pages.iter().enumerate() {
         say(
-            &mut after,
+            &mut slots,
             *page,
             Place {
                 block: head.block,
@@ -51,5 +52,5 @@ pub(crate) fn written(slots: Slots, pages: &[Says], head: Head, last: u32) -> Sl
             last + 1 + j as u32,
         );
     }
-    after
+    slots
 }

@@ -1,12 +1,10 @@
 // Which step comes next.
 ghost use Rattle.std.specs.Prelude.{◌≡◌, ℕ, ◌+◌, ◌^◌, ◌<◌, ◌≤◌, Decides, ◌≢◌};
-ghost use Rattle.planner.specs.Shape.{spent_above};
 ghost use Rattle.planner.specs.Steps.{state, Next, Turn};
 
 use crate::batch::is_group;
 use crate::free::Spares;
 use crate::head::Phase;
-use crate::numbers::SPENT_ABOVE;
 use crate::steps::Step;
 use crate::tables::Tables;
 
@@ -27,7 +25,7 @@ impl Tables {
         if self.has_left(g) {
             return Step::Ready;
         }
-        if self.last > SPENT_ABOVE {
+        if self.is_spent() {
             return Step::Spent;
         }
         match self.first_free() {

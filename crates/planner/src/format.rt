@@ -2,9 +2,10 @@
 ghost use Rattle.planner.specs.Formats.{Formats};
 
 use crate::head::{Head, Phase};
-use crate::sizes::{MOST_BLOCKS, are_sizes};
+use crate::sizes::are_sizes;
 use crate::slots::Slots;
 use crate::tables::Tables;
+use object::BLOCK_LIMIT;
 
 impl Tables {
     /// The tables after a format, which leaves one page numbered 1 that tells nothing. None where the chip has not 4 to 16 blocks
@@ -15,7 +16,7 @@ impl Tables {
         if !are_sizes(per_block, blocks) {
             return None;
         }
-        let mut high = [0; MOST_BLOCKS];
+        let mut high = [0; BLOCK_LIMIT];
         high[0] = 1;
         Some(Tables {
             slots: Slots::new(),

@@ -7,7 +7,8 @@ pub struct Head {
     pub used: u8,
 }
 
-/// Whether room is being made. (No `Option` of a number: what is proved speaks of these two states by name.)
+/// Whether room is being made. (No `Option` of a number, which is no plainer: both states are named in what is proved, and
+/// no code reads `since`.)
 #[derive(Clone, Copy)]
 pub enum Phase {
     AtRest,

@@ -8,7 +8,7 @@ ghost use Rattle.planner.specs.Steps.{state};
 use crate::sizes::key_limit;
 use crate::tables::Tables;
 
-/// Numbers are spent once one is above this.
+/// Numbers are spent once one is above this: 65,535 below the highest.
 pub const SPENT_ABOVE: u32 = 4294901760;
 
 impl Tables {

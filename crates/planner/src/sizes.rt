@@ -4,21 +4,16 @@ ghost use Rattle.planner.specs.Formats.{Sizes};
 ghost use Rattle.planner.specs.State.{limit};
 
 use crate::batch::BATCH_PAGES;
+use object::{BLOCK_LIMIT, LEAST_BLOCKS, SPARE_BLOCKS};
 
 /// The fewest blocks of a chip, and the fewest pages of a block.
-const FEWEST: u8 = 4;
+const FEWEST: u8 = LEAST_BLOCKS as u8;
 
 /// The most of either.
-const MOST: u8 = 16;
-
-/// So many blocks are never counted on.
-const SPARE_BLOCKS: usize = 3;
-
-/// The blocks of the largest chip.
-pub(crate) const MOST_BLOCKS: usize = MOST as usize;
+const MOST: u8 = BLOCK_LIMIT as u8;
 
 /// The keys of the largest chip, and a batch beyond.
-pub(crate) const MOST_SLOTS: usize = MOST as usize * (MOST_BLOCKS - SPARE_BLOCKS) + BATCH_PAGES;
+pub(crate) const MOST_SLOTS: usize = MOST as usize * (BLOCK_LIMIT - SPARE_BLOCKS) + BATCH_PAGES;
 
 // Whether a chip of such blocks and pages is one of ours.
 pub(crate) fn are_sizes(per_block: u8, blocks: u8) -> bool
@@ -28,7 +23,8 @@ pub(crate) fn are_sizes(per_block: u8, blocks: u8) -> bool
     sizes.contains(&per_block) && sizes.contains(&blocks)
 }
 
-// How many keys there may be on it.
+// How many keys there may be on it. Replay's `key_limit` asks a flash; this counts in bytes, for any number of pages in a
+// block.
 pub(crate) fn key_limit(per_block: u8, blocks: u8) -> usize
     ensures { result ≡ limit per_block blocks }
 {

@@ -1,7 +1,7 @@
 // Which page tells which key.
 
 /// A page of the chip.
-#[derive(Clone, Copy)]
+#[derive(Clone, Copy, Default)]
 pub struct Place {
     pub block: u8,
     /// Which page of the block.

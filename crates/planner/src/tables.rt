@@ -5,8 +5,8 @@ ghost use Rattle.planner.specs.Slots.{listed};
 ghost use Rattle.planner.specs.Shape.{shape, used_of, Keeps};
 
 use crate::head::{Head, Phase};
-use crate::sizes::MOST_BLOCKS;
 use crate::slots::Slots;
+use object::BLOCK_LIMIT;
 
 /// Which page tells which key, the highest number in each block, the floor and the last number, and the block being
 /// written. The tables are always sound, and a block is always free or can be made so.
@@ -14,7 +14,7 @@ use crate::slots::Slots;
 pub struct Tables {
     pub(crate) slots: Slots,
     /// As long as the largest chip wants it: there is no heap.
-    pub(crate) high: [u32; MOST_BLOCKS],
+    pub(crate) high: [u32; BLOCK_LIMIT],
     /// The pages of a block.
     pub(crate) per: u8,
     pub(crate) blocks: u8,

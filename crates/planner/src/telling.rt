@@ -14,13 +14,8 @@ impl Slots {
     pub fn new() -> Slots
         ensures { listed result ≡ [] }
     {
-        let blank = Slot {
-            key: Key { file: 0, part: 0 },
-            place: Place { block: 0, index: 0 },
-            number: 0,
-        };
         Slots {
-            table: Table::new(blank),
+            table: Table::new(Slot::default()),
         }
     }
 
@@ -65,6 +60,7 @@ impl Slots {
         ensures { listed self.new ≡ slice_set (listed self.old) at (record { key = (slice_index_or (listed self.old) at blank).key; place = place; number = number }) }
     {
         let key = self.as_slice()[at].key;
+        // Never refused: the key is told already.
         let _ = self.table.put(Slot { key, place, number });
     }
 }

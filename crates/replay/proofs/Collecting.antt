@@ -1,7 +1,9 @@
 -- Slots collected from the remembered pages, one page further.
-use Rattle.std.proofs.Common.{◌≡◌, ℕ, ◌+◌, ◌<◌, Bool, ◌⊎◌, List, length, get_or, Some, Option, sym, refl, ap, ◌∙◌, subst, inl, inr, arith}
+use Rattle.std.proofs.Common.{◌≡◌, ℕ, ◌+◌, ◌<◌, Bool, ◌⊎◌, List, length, get_or, Some, None, Option, MatchOption, true, false, Decides, sym, refl, ap, ◌∙◌, subst, inl, inr, arith}
 use native.Mathlib.Decide.{dec_lt}
 use Rattle.std.specs.List.{insert}
+use Rattle.std.specs.Bool.{then_some}
+use Rattle.std.proofs.lemmas.Bool.{false≢true}
 use Rattle.std.proofs.lemmas.List.{get_or_default}
 use Rattle.lookup.specs.Sorts.{InPlace}
 use Rattle.lookup.proofs.Insertion.{At, before, itself, later, which, stays, stands, rising_inserted}
@@ -11,8 +13,8 @@ use Rattle.replay.specs.declared.seen.Says.{Says}
 use Rattle.replay.specs.declared.seen.Says.TheVariants.{Sets}
 use Rattle.replay.specs.declared.seen.Seen.{Seen}
 use Rattle.object.specs.declared.slot.Slot.{Slot}
-use Rattle.replay.specs.Shows.{SaidTo, ShowsAt}
-use Rattle.replay.specs.Slots.{slot_at, slot_rank, SmallParts, Collects}
+use Rattle.replay.specs.Shows.{SaidTo, Shows, ShowsAt}
+use Rattle.replay.specs.Slots.{slot_at, slot_rank, SmallParts, Collects, ShowsWanted}
 use Rattle.replay.proofs.Nothing.{nothing}
 
 -- the rank tells keys apart
@@ -48,6 +50,13 @@ module _ (xs : List Seen) (flags : List Bool) (f : ℕ) where
   shows_one_key i k j a b = sets_same k j (sym (a.sets nothing) ∙ b.sets nothing)
 
   module _ (W : Key → Type 0) where
+    -- what a test of the key leaves of what the page shows
+    pub shows_filtered : (i : ℕ) (o r : Option Key) {R : Key → Bool → Type 0} → ((k : Key) (b : Bool) → R k b → Decides b (W k)) → Shows xs flags f i o
+        → MatchOption o (r ≡ None) (λ k. (b : Bool) × R k b × (r ≡ then_some b k)) → ShowsWanted xs flags f i W r
+    shows_filtered i None r tests none is = subst (ShowsWanted xs flags f i W) (sym is) (λ k s w. none k s)
+    shows_filtered i (Some k) r tests s (true, t, is) = subst (ShowsWanted xs flags f i W) (sym is) (s, (tests k true t).0 refl)
+    shows_filtered i (Some k) r tests s (false, t, is) = subst (ShowsWanted xs flags f i W) (sym is) (λ j a w. false≢true ((tests k false t).1 (subst W (shows_one_key i j k a s) w)))
+
     module _ (at : ℕ) (here : at < length xs) (slots : List (Slot ℕ)) (c : Collects xs flags f at W slots) where
       -- a page that shows no wanted key
       pub collects_skip : ((k : Key) → ShowsAt xs flags f at k → W k → ⊥) → Collects xs flags f (at + 1) W slots

@@ -1,5 +1,5 @@
 -- A page that begins anew.
-use Rattle.std.proofs.Common.{◌≡◌, ℕ, zero, suc, ◌+◌, ◌<◌, ◌≤◌, List, [], ◌∷◌, sym, refl, ap, ◌∙◌, subst, arith}
+use Rattle.std.proofs.Common.{◌≡◌, ℕ, zero, suc, ◌+◌, ◌<◌, ◌≤◌, ◌⊎◌, inl, inr, List, [], ◌∷◌, sym, refl, ap, ◌∙◌, subst, arith}
 use Rattle.page.specs.declared.fields.Header.{Header}
 use Rattle.replay.specs.declared.group.Group.{Group}
 use Rattle.replay.specs.declared.group.Group.TheVariants.{Idle, Part, Whole}
@@ -67,6 +67,11 @@ from_idle h pages g s idle = begun h pages g s (longer_idle h pages idle)
 
 pub from_whole : (h : Header) (pages : List Header) (g : Group) (full : ℕ) → Starts h g → Gathers pages (Whole full) → Gathers (h ∷ pages) g
 from_whole h pages g full s whole = begun h pages g s (longer_whole h pages full whole)
+
+-- no part of a group has come
+pub from_no_part : (h : Header) (pages : List Header) (was g : Group) → (was ≡ Idle) ⊎ ((full : ℕ) × (was ≡ Whole full)) → Starts h g → Gathers pages was → Gathers (h ∷ pages) g
+from_no_part h pages was g (inl e) s gathers = from_idle h pages g s (subst (Gathers pages) e gathers)
+from_no_part h pages was g (inr (full, e)) s gathers = from_whole h pages g full s (subst (Gathers pages) e gathers)
 
 pub from_part : (h : Header) (pages : List Header) (g : Group) (last next full : ℕ) → Starts h g → (Follows h last next full → ⊥) → Gathers pages (Part last next full) → Gathers (h ∷ pages) g
 from_part h pages g last next full s no-page part = begun h pages g s (longer_part h pages last next full part no-page)

@@ -13,7 +13,7 @@ impl Scan {
         self.slots.as_slice()
     }
 
-    /// The highest number of a block's data pages, 0 where it has none.
+    /// The highest number of a block's data pages, 0 where it has none. (0 is no page's number, so it needs no `Option`.)
     pub fn block_top(&self, block: usize) -> u32
         ensures { result ≡ tops_of self.now block }
     {

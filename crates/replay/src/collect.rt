@@ -14,13 +14,6 @@ use crate::wants::Wants;
 use lookup::Table;
 use object::Key;
 
-// What fills a table past its slots.
-const NO_SLOT: Slot = Slot {
-    key: Key { file: 0, part: 0 },
-    place: 0,
-    number: 0,
-};
-
 // Puts a key that is not there yet among the slots.
 fn put_slot(slots: &mut Table<Slot, PAGE_LIMIT>, key: Key, page: &Seen)
     requires room { length (rows slots.old) < 256 }
@@ -44,8 +37,7 @@ impl Pages<'_> {
         requires { i < length self.now.seen.now }
         ensures { ShowsWanted self.now.seen.now self.now.whole.now self.now.floor i (W.Wants.wanted wants.now) result }
     {
-        let key = self.shows(i)?;
-        if wants.wants(&key) { Some(key) } else { None }
+        self.shows(i).filter(|key| wants.wants(key))
     }
 
     // The wanted keys of those that are shown, in rising order.
@@ -53,7 +45,7 @@ impl Pages<'_> {
         requires { SmallParts self.now.seen.now }
         ensures { Collects self.now.seen.now self.now.whole.now self.now.floor (length self.now.seen.now) (W.Wants.wanted wants.now) (rows result) }
     {
-        let mut slots = Table::new(NO_SLOT);
+        let mut slots = Table::new(Slot::default());
         for (i, page) in self.seen.iter().enumerate() {
             if let Some(key) = self.shows_wanted(i, wants) {
                 put_slot(&mut slots, key, page);

@@ -9,20 +9,7 @@ use crate::seen::{Seen, says_of};
 use crate::tables::PAGE_LIMIT;
 use flash::{PAGE_BYTES, ReadFlash, page_count};
 use lookup::Table;
-use page::{Header, Page, PageFault, decode};
-
-// What fills a table past its pages.
-const NO_PAGE: Seen = Seen {
-    place: 0,
-    header: Header {
-        index: 0,
-        size: 0,
-        number: 0,
-        floor: 0,
-        file: 0,
-    },
-    says: None,
-};
+use page::{Page, PageFault, decode};
 
 // Remembers what was read at `place`.
 fn take_in(
@@ -57,7 +44,7 @@ pub(crate) fn gather<F: ReadFlash>(
     ensures answer { GathersAll (F.ReadFlash.chip flash.now) result }
     ensures power { Powered (F.ReadFlash.chip flash.now) result }
 {
-    let mut seen = Table::new(NO_PAGE);
+    let mut seen = Table::new(Seen::default());
     for place in 0..page_count(flash) {
         flash.read(place, work)?;
         take_in(&mut seen, place, decode(work))?;

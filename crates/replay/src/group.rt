@@ -65,8 +65,7 @@ impl Group {
                     *next += 1;
                 }
             }
-            Group::Idle => *self = Group::start(page),
-            Group::Whole { .. } => *self = Group::start(page),
+            Group::Idle | Group::Whole { .. } => *self = Group::start(page),
         }
     }
 }

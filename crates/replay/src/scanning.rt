@@ -18,14 +18,9 @@ use crate::tables::{BLOCK_LIMIT, PAGE_LIMIT, Scan};
 use crate::tops::block_tops;
 use crate::wants::EntryKeys;
 use flash::{PAGE_BYTES, ReadFlash};
+use object::{LEAST_BLOCKS, SPARE_BLOCKS};
 use tree::{ENTRY_LIMIT, Tree};
 use work_page::PageGuard;
-
-/// The fewest blocks of a chip that is shown.
-const LEAST_BLOCKS: usize = 4;
-
-/// The blocks' worth of pages that keys leave to the journal.
-const SPARE_BLOCKS: usize = 3;
 
 // The entries that the remembered pages show, where they are a tree.
 fn shown_tree<F: ReadFlash>(
@@ -47,7 +42,8 @@ fn shown_tree<F: ReadFlash>(
     Ok(tree)
 }
 
-// The most keys that the chip may tell.
+// The most keys that the chip may tell. Planner's `key_limit` counts in bytes, for any number of pages in a block; this
+// asks a flash.
 fn key_limit<F: ReadFlash>(flash: &F) -> usize
     ensures { result ≡ key_limit (F.ReadFlash.chip flash.now) }
 {

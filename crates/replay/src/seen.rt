@@ -7,7 +7,7 @@ use lookup::Ranked;
 use object::Key;
 use page::{Content, Header, Page};
 
-/// What a page says to a slot.
+/// What a page says to a slot. (Not planner's `Says`: there a page removes all keys of a file, here it speaks to one slot.)
 #[derive(Clone, Copy, PartialEq, Eq, Debug)]
 pub enum Says {
     Sets(Key),
@@ -15,7 +15,7 @@ pub enum Says {
 }
 
 /// A data page, without the bytes that it holds.
-#[derive(Clone, Copy, PartialEq, Eq, Debug)]
+#[derive(Clone, Copy, PartialEq, Eq, Debug, Default)]
 pub struct Seen {
     pub place: usize,
     pub header: Header,

@@ -12,12 +12,13 @@ fn said_to(says: Option<Says>, key: &Key) -> bool
     ensures { Decides result (SaidTo says key.now) }
 {
     match says {
-        Some(Says::Sets(slot)) | Some(Says::Removes(slot)) => slot == *key,
+        Some(Says::Sets(slot) | Says::Removes(slot)) => slot == *key,
         None => false,
     }
 }
 
-// A page is named by its index, so that each asks, as an element of a slice does, that it is below the number of pages.
+// A page is named by its index, since `whole` lies beside the pages and an index names both; so each asks, as an element of
+// a slice does, that it is below the number of pages.
 impl Pages<'_> {
     // Whether the page at `i` counts.
     fn counts(&self, i: usize) -> bool

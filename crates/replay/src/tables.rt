@@ -6,7 +6,7 @@ use lookup::Table;
 use tree::Tree;
 
 /// The most blocks of a chip that is shown.
-pub const BLOCK_LIMIT: usize = 16;
+pub const BLOCK_LIMIT: usize = object::BLOCK_LIMIT;
 
 /// The most pages of such a chip.
 pub const PAGE_LIMIT: usize = 256;

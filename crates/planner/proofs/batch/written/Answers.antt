@@ -10,11 +10,11 @@ loop-j-preserved c =
     let h = c.args.head in
     let pages = c.args.pages.now in
     let j = c.loop-j.j in
-    written_more (listed c.args.slots) pages h.block h.used (c.args.last + 1) j (listed c.loop-j.after) c.loop-j.invariant (get_or pages j _) (listed c.say.new.slots)
+    written_more (listed c.args.slots) pages h.block h.used (c.args.last + 1) j (listed c.loop-j.slots) c.loop-j.invariant (get_or pages j _) (listed c.say.new.slots)
     (λ d. get_or_default pages j d _ c.loop-j-test.true) c.say.ensures
 
 pub returns : goal.returns
 returns c =
     let h = c.args.head in
-    subst (λ m. Written (listed c.args.slots) c.args.pages.now h.block h.used (c.args.last + 1) m (listed c.loop-j.after))
+    subst (λ m. Written (listed c.args.slots) c.args.pages.now h.block h.used (c.args.last + 1) m (listed c.loop-j.slots))
     (let e : c.loop-j.j ≡ length c.args.pages.now = omega arith in e) c.loop-j.invariant

@@ -4,4 +4,4 @@ use Rattle.planner.specs.Written.{Written}
 use Rattle.planner.proofs.batch.written.Given as goal
 
 abbrev pub invariant-loop-j : goal.invariant-loop-j
-invariant-loop-j l = Written (listed l.initial.after) l.pages l.head.block l.head.used (l.last + 1) l.j (listed l.after)
+invariant-loop-j l = Written (listed l.initial.slots) l.pages l.head.block l.head.used (l.last + 1) l.j (listed l.slots)

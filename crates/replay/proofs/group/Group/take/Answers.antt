@@ -1,7 +1,7 @@
 use Rattle.std.proofs.Common.{subst}
 use borrow.Author.Tests.{both_ways}
 use Rattle.replay.specs.Gathered.{Gathers}
-use Rattle.replay.proofs.Gathering.{from_idle, from_whole, from_part}
+use Rattle.replay.proofs.Gathering.{from_no_part, from_part}
 use Rattle.replay.proofs.group.Group.take.Goals as goal
 
 pub returns-then-not-follows : goal.returns-then-not-follows
@@ -12,8 +12,4 @@ returns-then-not-follows c =
     (subst (Gathers pages) c.in-Part.is gathers)
 
 pub returns-in-Idle : goal.returns-in-Idle
-returns-in-Idle c = λ pages gathers. from_idle c.args.page.now pages c.start-in-Idle.result c.start-in-Idle.ensures (subst (Gathers pages) c.in-Idle.is gathers)
-
-pub returns-in-Whole : goal.returns-in-Whole
-returns-in-Whole c =
-    λ pages gathers. from_whole c.args.page.now pages c.start-in-Whole.result c.in-Whole.size c.start-in-Whole.ensures (subst (Gathers pages) c.in-Whole.is gathers)
+returns-in-Idle c = λ pages. from_no_part c.args.page.now pages c.args.self.now c.start-in-Idle.result c.in-Idle.is c.start-in-Idle.ensures
