@@ -75,10 +75,10 @@ fn show_foreign(rt: &HostRuntime) -> anyhow::Result<()> {
     )
 }
 
-fn show_damaged_pages(rt: &HostRuntime) -> anyhow::Result<()> {
-    for (name, page) in fields_out_of_range().into_iter().chain(bad_names()) {
-        show(rt, name, 4, &[page])?;
-        show(rt, "below the floor", 4, &below_the_floor(page))?;
+fn show_pages(rt: &HostRuntime, damaged: &[(&str, Placed)]) -> anyhow::Result<()> {
+    for (name, page) in damaged {
+        show(rt, name, 4, &[*page])?;
+        show(rt, "below the floor", 4, &below_the_floor(*page))?;
     }
     Ok(())
 }
@@ -122,7 +122,8 @@ fn show_refused(rt: &HostRuntime) -> anyhow::Result<()> {
 fn main(rt: HostRuntime) -> anyhow::Result<()> {
     show_stored(&rt)?;
     show_foreign(&rt)?;
-    show_damaged_pages(&rt)?;
+    show_pages(&rt, &fields_out_of_range())?;
+    show_pages(&rt, &bad_names())?;
     show_damaged(&rt)?;
     show_refused(&rt)
 }

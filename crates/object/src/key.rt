@@ -9,7 +9,8 @@ use lookup::Keyed;
 pub struct Key {
     /// The file number, 1 or more.
     pub file: u32,
-    /// 0 is the entry, 1 to 32 are the chunks.
+    /// 0 is the entry, 1 to 32 are the chunks. A number and no enum: callers make keys of any part, and all that is said of
+    /// parts is said by number.
     pub part: u8,
 }
 

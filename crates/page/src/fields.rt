@@ -13,7 +13,7 @@ pub struct Header {
     pub number: u32,
     /// The pages numbered below this no longer count.
     pub floor: u32,
-    /// The file that the page speaks of; 0 in a note.
+    /// The file that the page speaks of; 0 in a note, as the layout has it.
     pub file: u32,
 }
 
@@ -27,7 +27,7 @@ pub enum EntryKind {
 /// What a file or a directory is called, and where it stands.
 #[derive(Clone, Copy, PartialEq, Eq, Debug)]
 pub struct Entry {
-    /// The file number of the directory that it stands in; 0 is the root.
+    /// The file number of the directory that it stands in; 0 is the root, as the layout has it.
     pub directory: u32,
     pub kind: EntryKind,
     /// In bytes; 0 for a directory.

@@ -16,7 +16,10 @@ fn entry(directory: u32, kind: EntryKind, name: &[u8]) -> Result<Entry, Fail> {
 fn entries_come_by_file_number(rt: HostRuntime) -> Result<(), Fail> {
     let mut tree = Tree::new();
     assert_eq!(rt; tree.add(9, entry(4, EntryKind::File, b"arc")?), Ok(()));
-    assert_eq!(rt; tree.add(4, entry(0, EntryKind::Directory, b"cal")?), Ok(()));
+    assert_eq!(rt;
+        tree.add(4, entry(0, EntryKind::Directory, b"cal")?),
+        Ok(())
+    );
     let nodes = tree.nodes();
     assert!(rt; nodes.len() == 2);
     assert_eq!(rt; nodes[0].file, 4);
@@ -38,7 +41,10 @@ fn a_file_holds_no_entry(rt: HostRuntime) -> Result<(), Fail> {
 fn a_file_and_a_directory_share_no_name(rt: HostRuntime) -> Result<(), Fail> {
     let mut tree = Tree::new();
     assert_eq!(rt; tree.add(4, entry(0, EntryKind::File, b"cal")?), Ok(()));
-    assert_eq!(rt; tree.add(9, entry(0, EntryKind::Directory, b"cal")?), Ok(()));
+    assert_eq!(rt;
+        tree.add(9, entry(0, EntryKind::Directory, b"cal")?),
+        Ok(())
+    );
     assert_eq!(rt; tree.fault(), Some(TreeFault::Namesakes));
     Ok(())
 }

@@ -5,4 +5,4 @@
 
 mod guard;
 
-pub use guard::{PageGuard, Guard};
+pub use guard::{Guard, PageGuard};
