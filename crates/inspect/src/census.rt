@@ -55,10 +55,13 @@ fn widened(numbers: Option<Numbers>, number: u32) -> Numbers
         lowest: number,
         highest: number,
     };
-    numbers.map_or(first, |seen| Numbers {
-        lowest: seen.lowest.min(number),
-        highest: seen.highest.max(number),
-    })
+    numbers.map_or(
+        first,
+        |seen| Numbers {
+            lowest: seen.lowest.min(number),
+            highest: seen.highest.max(number),
+        },
+    )
 }
 
 impl Census {
