@@ -1,4 +1,5 @@
-// Changes to a table whose first records are by rising key.
+// Changes to a table whose first records are by rising key. How many count stands beside it: its memory is lent, as
+// there is no heap.
 ghost use Rattle.std.specs.Prelude.{◌≡◌, ◌<◌, ◌≤◌, length};
 ghost use Rattle.object_store.specs.Edits.{Puts, Spares, Unchanged};
 
