@@ -31,6 +31,10 @@ Enters {R} ranked n before new (Err Taken) after =
     (length before < n) × (after ≡ before) × ((at : ℕ) × (at < length before) × ((d : R) → ranked (slice_index_or before at d) ≡ ranked new))
 Enters ranked n before new (Err Full) after = (length before ≡ n) × (after ≡ before)
 
+-- the record at the place has the new one's rank
+abbrev pub RanksAt : {R : Type 0} → (R → ℕ) → List R → ℕ → R → Type 0
+RanksAt {R} ranked xs at new = (at < length xs) × ((d : R) → ranked (slice_index_or xs at d) ≡ ranked new)
+
 -- the new record stands in place of the one with its rank
 pub record Replaces {R : Type 0} (ranked : R → ℕ) (xs : List R) (new : R) (ys : List R) : Type 0 where
   pub at : ℕ

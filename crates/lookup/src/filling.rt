@@ -1,10 +1,10 @@
 // Filling, reading and emptying a table.
-ghost use Rattle.std.specs.Prelude.{◌≡◌, []};
+ghost use Rattle.std.specs.Prelude.{◌≡◌, [], slice_set};
 ghost use Rattle.std.specs.Fn.{CalledAt};
 ghost use Rattle.std.specs.List.Retain.{IsFiltered};
 ghost use Rattle.lookup.specs.Found.{Found};
 ghost use Rattle.lookup.specs.Rows.{rows};
-ghost use Rattle.lookup.specs.Sorts.{Enters, Puts};
+ghost use Rattle.lookup.specs.Sorts.{Enters, Puts, RanksAt};
 
 use crate::sorted::{Ranked, Unplaced, insert_sorted, retain};
 use crate::table::Table;
@@ -47,13 +47,21 @@ impl<R: Ranked + Copy, const N: usize> Table<R, N> {
             .position(|record| record.rank() == rank)
     }
 
+    /// Puts a record in place of the one at `at`, which has its rank: no search, since the caller knows where that is.
+    pub fn replace(&mut self, at: usize, new: R)
+        requires { RanksAt R.Ranked.ranked (rows self.old) at new }
+        ensures { rows self.new ≡ slice_set (rows self.old) at new }
+    {
+        self.records[at] = new;
+    }
+
     /// Puts a record in place of the one with its rank, or else between the others; nothing changes where there is no room.
     pub fn put(&mut self, new: R) -> Result<(), Unplaced>
         ensures { Puts R.Ranked.ranked N (rows self.old) new result (rows self.new) }
     {
         match self.find_rank(new.rank()) {
             Some(at) => {
-                self.records[at] = new;
+                self.replace(at, new);
                 Ok(())
             }
             None => self.insert(new),

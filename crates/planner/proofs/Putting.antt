@@ -2,16 +2,18 @@
 use Rattle.std.proofs.Common.{◌≡◌, ℕ, ◌<◌, List, length, get_or, set, Ok, Err, Result, inl, inr, sym, refl, ap, ◌∙◌, subst}
 use Rattle.lookup.specs.Found.{Absent}
 use Rattle.lookup.specs.Sorts as sorts
+use Rattle.lookup.specs.Sorts.{RanksAt}
 use Rattle.lookup.specs.declared.sorted.Unplaced.{Unplaced}
 use Rattle.lookup.specs.declared.sorted.Unplaced.TheVariants.{Taken, Full}
 use Rattle.lookup.proofs.Putting.{rises_set}
+use Rattle.std.proofs.lemmas.List.{get_or_default}
 use Rattle.object.specs.Rank.{key_rank}
 use Rattle.planner.specs.Order.{Slot, ranked, Rising, Narrow}
 use Rattle.planner.specs.Slots.{listed, Puts}
 use Rattle.planner.specs.declared.slot.Place.{Place}
 use Rattle.planner.specs.declared.slots.Slots.{Slots}
 use Rattle.planner.specs.Shape.{blank}
-use Rattle.planner.proofs.Firsts.{the_rising, the_narrow, one_place, one_rank}
+use Rattle.planner.proofs.Firsts.{the_rising, the_narrow, one_rank}
 use Rattle.planner.proofs.Replacing.{replaced, replaced_narrow}
 use Rattle.planner.proofs.Inserting.{inserted_put, inserted_narrow}
 
@@ -36,25 +38,20 @@ module _ (xs : List Slot) (new : Slot) (rises : Rising xs) (narrow : Narrow xs) 
   puts_narrow n (Err Taken) ys p = absurd p
   puts_narrow n (Err Full) ys p = subst Narrow (sym p.2) narrow
 
-  -- where the key stands at i, the slot is put there
-  pub puts_at : (i : ℕ) → i < length xs → (get_or xs i blank).key ≡ new.key → (n : ℕ) (r : Result (Unit {0}) Unplaced) (ys : List Slot) → sorts.Puts ranked n xs new r ys → ys ≡ set xs i new
-  puts_at i l key n (Ok u) ys (inl p) = p.is ∙ ap (λ k. set xs k new) (one_place xs rises p.at i p.within l (same ys p ∙ sym key))
-  puts_at i l key n (Ok u) ys (inr p) = absurd (absent p.1 i blank l key)
-  puts_at i l key n (Err Taken) ys p = absurd p
-  puts_at i l key n (Err Full) ys p = absurd (absent p.1 i blank l key)
-
 -- the key that stands at i is told by another page; zs are the slots as they were read
-module _ (s : Slots) (zs : List Slot) (is : zs ≡ listed s) (i : ℕ) (l : i < length (listed s)) (p : Place) (n : ℕ) (r : Result (Unit {0}) Unplaced) (ys : List Slot) where
+module _ (s : Slots) (zs : List Slot) (is : zs ≡ listed s) (i : ℕ) (l : i < length (listed s)) (p : Place) (n : ℕ) where
   abbrev moved : List Slot → Slot
   moved xs = record { key = (get_or xs i blank).key; place = p; number = n }
 
-  byte : (moved (listed s)).key.part < 256
-  byte = the_narrow s i blank l
+  same_key : (d : Slot) → (get_or (listed s) i d).key ≡ (moved zs).key
+  same_key d = ap (λ (x : Slot). x.key) (get_or_default (listed s) i d blank l) ∙ ap (λ (xs : List Slot). (get_or xs i blank).key) (sym is)
 
-  pub moves_narrow : sorts.Puts ranked 212 (listed s) (moved zs) r ys → Narrow ys
-  moves_narrow h =
-      puts_narrow (listed s) (moved (listed s)) (the_rising s) (the_narrow s) byte 212 r ys (subst (λ xs. sorts.Puts ranked 212 (listed s) (moved xs) r ys) is h)
+  pub ranks_at : RanksAt ranked (listed s) i (moved zs)
+  ranks_at = (l, λ d. ap key_rank (same_key d))
 
-  pub moves : sorts.Puts ranked 212 (listed s) (moved zs) r ys → ys ≡ set (listed s) i (moved (listed s))
-  moves h =
-      puts_at (listed s) (moved (listed s)) (the_rising s) (the_narrow s) byte i l refl 212 r ys (subst (λ xs. sorts.Puts ranked 212 (listed s) (moved xs) r ys) is h)
+  pub moves : (ys : List Slot) → ys ≡ set (listed s) i (moved zs) → ys ≡ set (listed s) i (moved (listed s))
+  moves ys e = e ∙ ap (λ (xs : List Slot). set (listed s) i (moved xs)) is
+
+  pub moves_narrow : (ys : List Slot) → ys ≡ set (listed s) i (moved zs) → Narrow ys
+  moves_narrow ys e =
+      subst Narrow (sym (moves ys e)) (replaced_narrow (listed s) i (moved (listed s)) l refl (the_rising s) (the_narrow s i blank l) (the_narrow s))

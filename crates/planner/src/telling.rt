@@ -60,7 +60,6 @@ impl Slots {
         ensures { listed self.new ≡ slice_set (listed self.old) at (record { key = (slice_index_or (listed self.old) at blank).key; place = place; number = number }) }
     {
         let key = self.as_slice()[at].key;
-        // Never refused: the key is told already.
-        let _ = self.table.put(Slot { key, place, number });
+        self.table.replace(at, Slot { key, place, number });
     }
 }
