@@ -2,9 +2,6 @@
 use Rattle.std.specs.Prelude.{⊤, ◌≡◌, ℕ, ◌<◌, true, false, ◌⊎◌, List, length, Ok, Err, Result, ◌≢◌, slice_index_or}
 use Rattle.flash.specs.declared.fault.FlashFault.TheVariants.{Off}
 use Rattle.flash.specs.Chip.{Chip, page}
-use Rattle.lookup.specs.declared.sorted.Ranked.{Ghosts}
-use Rattle.lookup.specs.declared.table.Table.{Table}
-use Rattle.lookup.specs.Rows.{rows}
 use Rattle.lookup.specs.Sorts.{InPlace}
 use Rattle.page.specs.declared.fields.Page.{Page}
 use Rattle.page.specs.declared.fields.PageFault.{PageFault}
@@ -41,16 +38,16 @@ TakesIn before place (Err OutOfRange) (Ok _) after = ⊥
 TakesIn before place (Err OutOfRange) (Err e) after = e ≡ Damaged
 
 -- all data pages are remembered; or power is off; or one cannot be read, or two have one number
-abbrev pub GathersAll : {g : Ghosts Seen} → Chip → Result (Table Seen 256 g) ReplayFault → Type 0
-GathersAll c (Ok seen) = Remembers c (length c.pages) (rows seen)
-GathersAll c (Err WorkPage) = ⊥
-GathersAll c (Err Buffer) = ⊥
-GathersAll c (Err Blocks) = ⊥
-GathersAll c (Err (Flash report)) = (report ≡ Off) × (c.on ≡ false)
-GathersAll c (Err Empty) = ⊥
-GathersAll c (Err Damaged) = (c.on ≡ true) × (Unreadable c ⊎ Twice c)
+abbrev pub GathersAll : Chip → Result (Unit {0}) ReplayFault → List Seen → Type 0
+GathersAll c (Ok _) xs = Remembers c (length c.pages) xs
+GathersAll c (Err WorkPage) xs = ⊥
+GathersAll c (Err Buffer) xs = ⊥
+GathersAll c (Err Blocks) xs = ⊥
+GathersAll c (Err (Flash report)) xs = (report ≡ Off) × (c.on ≡ false)
+GathersAll c (Err Empty) xs = ⊥
+GathersAll c (Err Damaged) xs = (c.on ≡ true) × (Unreadable c ⊎ Twice c)
 
 -- where pages were remembered, power is on unless there is no page at all
-abbrev pub Powered : {g : Ghosts Seen} → Chip → Result (Table Seen 256 g) ReplayFault → Type 0
-Powered c (Ok seen) = 0 < length c.pages → c.on ≡ true
+abbrev pub Powered : Chip → Result (Unit {0}) ReplayFault → Type 0
+Powered c (Ok _) = 0 < length c.pages → c.on ≡ true
 Powered c (Err e) = ⊤

@@ -1,5 +1,5 @@
 // The slots of a chip, from its remembered pages.
-ghost use Rattle.std.specs.Prelude.{◌≡◌, ℕ, ◌<◌, ◌≤◌, length, ◌≢◌, slice_index_or};
+ghost use Rattle.std.specs.Prelude.{◌≡◌, ℕ, ◌<◌, ◌≤◌, [], length, ◌≢◌, slice_index_or};
 ghost use Rattle.lookup.specs.Rows.{rows};
 ghost use Rattle.lookup.specs.Sorts.{InPlace};
 ghost use Rattle.object.specs.Rank.{key_rank};
@@ -40,17 +40,17 @@ impl Pages<'_> {
         self.shows(i).filter(|key| wants.wants(key))
     }
 
-    // The wanted keys of those that are shown, in rising order.
-    pub(crate) fn collect<W: Wants>(&self, wants: &W) -> Table<Slot, PAGE_LIMIT>
-        requires { SmallParts self.now.seen.now }
-        ensures { Collects self.now.seen.now self.now.whole.now self.now.floor (length self.now.seen.now) (W.Wants.wanted wants.now) (rows result) }
+    // The wanted keys of those that are shown, in rising order, in a table that holds none yet. It is lent, since one that is
+    // handed out is copied.
+    pub(crate) fn collect<W: Wants>(&self, wants: &W, slots: &mut Table<Slot, PAGE_LIMIT>)
+        requires small { SmallParts self.now.seen.now }
+        requires none { rows slots.old ≡ [] }
+        ensures { Collects self.now.seen.now self.now.whole.now self.now.floor (length self.now.seen.now) (W.Wants.wanted wants.now) (rows slots.new) }
     {
-        let mut slots = Table::new(Slot::default());
         for (i, page) in self.seen.iter().enumerate() {
             if let Some(key) = self.shows_wanted(i, wants) {
-                put_slot(&mut slots, key, page);
+                put_slot(slots, key, page);
             }
         }
-        slots
     }
 }

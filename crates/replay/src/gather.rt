@@ -1,5 +1,5 @@
 // Reading every page of a flash once, and remembering the data pages.
-ghost use Rattle.std.specs.Prelude.{◌≡◌, ◌<◌, ◌≤◌, true, length, IfOk};
+ghost use Rattle.std.specs.Prelude.{◌≡◌, ◌<◌, ◌≤◌, true, [], length, IfOk};
 ghost use Rattle.lookup.specs.Rows.{rows};
 ghost use Rattle.page.specs.Fits.{fits as page_fits};
 ghost use Rattle.replay.specs.Remembers.{GathersAll, Powered, TakesIn};
@@ -35,19 +35,21 @@ fn take_in(
     }
 }
 
-// Reads every page once and remembers the data pages, by rising number.
+// Reads every page once and remembers the data pages, by rising number, in a table that holds none yet. It is lent, since
+// one that is handed out is copied.
 pub(crate) fn gather<F: ReadFlash>(
     flash: &F,
     work: &mut [u8; PAGE_BYTES],
-) -> Result<Table<Seen, PAGE_LIMIT>, ReplayFault>
-    requires { length (F.ReadFlash.chip flash.now).pages ≤ 256 }
-    ensures answer { GathersAll (F.ReadFlash.chip flash.now) result }
+    seen: &mut Table<Seen, PAGE_LIMIT>,
+) -> Result<(), ReplayFault>
+    requires few { length (F.ReadFlash.chip flash.now).pages ≤ 256 }
+    requires none { rows seen.old ≡ [] }
+    ensures answer { GathersAll (F.ReadFlash.chip flash.now) result (rows seen.new) }
     ensures power { Powered (F.ReadFlash.chip flash.now) result }
 {
-    let mut seen = Table::new(Seen::default());
     for place in 0..page_count(flash) {
         flash.read(place, work)?;
-        take_in(&mut seen, place, decode(work))?;
+        take_in(seen, place, decode(work))?;
     }
-    Ok(seen)
+    Ok(())
 }

@@ -14,10 +14,12 @@ use crate::overrun::has_overrun;
 use crate::pages::Pages;
 use crate::powered::PoweredFlash;
 use crate::seen::Seen;
+use crate::slot::Slot;
 use crate::tables::{BLOCK_LIMIT, PAGE_LIMIT, Scan};
 use crate::tops::block_tops;
 use crate::wants::EntryKeys;
 use flash::{PAGE_BYTES, ReadFlash};
+use lookup::Table;
 use object::{LEAST_BLOCKS, SPARE_BLOCKS};
 use tree::{ENTRY_LIMIT, Tree};
 use work_page::PageGuard;
@@ -32,7 +34,8 @@ fn shown_tree<F: ReadFlash>(
     requires marks { Marks pages.now.seen.now pages.now.whole.now }
     ensures { Trees (F.ReadFlash.chip powered.now.flash.now) pages.now.floor result }
 {
-    let found = pages.collect(&EntryKeys);
+    let mut found = Table::new(Slot::default());
+    pages.collect(&EntryKeys, &mut found);
     let slots = found.as_slice();
     if slots.len() > ENTRY_LIMIT {
         return Err(ReplayFault::Damaged);
@@ -69,7 +72,8 @@ fn scan_seen<F: ReadFlash>(
         floor: top.floor,
     };
     let tree = shown_tree(powered, work, &pages)?;
-    let slots = pages.collect(&tree);
+    let mut slots = Table::new(Slot::default());
+    pages.collect(&tree, &mut slots);
     if slots.as_slice().len() > key_limit(powered.flash) {
         return Err(ReplayFault::Damaged);
     }
@@ -92,28 +96,23 @@ fn has_few_blocks<F: ReadFlash>(flash: &F) -> bool
     (LEAST_BLOCKS..=BLOCK_LIMIT).contains(&flash.blocks())
 }
 
-// What the chip tells.
-fn read_chip<F: ReadFlash>(flash: &F, work: &mut [u8; PAGE_BYTES]) -> Result<Scan, ReplayFault>
-    ensures { Scans (F.ReadFlash.chip flash.now) result }
-{
-    if !has_few_blocks(flash) {
-        return Err(ReplayFault::Blocks);
-    }
-    let found = gather(flash, work)?;
-    let seen = found.as_slice();
-    if seen.is_empty() {
-        return Err(ReplayFault::Empty);
-    }
-    scan_seen(&PoweredFlash { flash }, work, seen)
-}
-
-// The same, and nothing that was read stays in the working page.
-fn scan_page<F: ReadFlash>(flash: &F, page: &mut [u8; PAGE_BYTES]) -> Result<Scan, ReplayFault>
+// What the chip tells; nothing that was read stays in the working page. In one function, since a `Scan` that is handed on is
+// copied.
+fn read_chip<F: ReadFlash>(flash: &F, page: &mut [u8; PAGE_BYTES]) -> Result<Scan, ReplayFault>
     ensures answer { Scans (F.ReadFlash.chip flash.now) result }
     ensures page { page.new ≡ ones 256 }
 {
     let guard = PageGuard(page);
-    read_chip(flash, guard.0)
+    if !has_few_blocks(flash) {
+        return Err(ReplayFault::Blocks);
+    }
+    let mut found = Table::new(Seen::default());
+    gather(flash, guard.0, &mut found)?;
+    let seen = found.as_slice();
+    if seen.is_empty() {
+        return Err(ReplayFault::Empty);
+    }
+    scan_seen(&PoweredFlash { flash }, guard.0, seen)
 }
 
 /// What the chip tells: the tables that a journal needs, or why there are none. Each page is read once,
@@ -125,5 +124,5 @@ pub fn scan<F: ReadFlash>(flash: &F, work: &mut [u8]) -> Result<Scan, ReplayFaul
     let Some(page) = work.as_mut_array() else {
         return Err(ReplayFault::WorkPage);
     };
-    scan_page(flash, page)
+    read_chip(flash, page)
 }

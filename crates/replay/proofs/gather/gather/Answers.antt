@@ -28,7 +28,7 @@ returns-in_err-take_in-clause-answer g c =
     let stops = step_stops chip c.loop-place.place c.in_err-take_in.field-0.0 (rows c.loop-place.seen) (rows c.take_in.new.seen) c.decode.result (ap decoded (sym whole) ∙ sym c.decode.ensures) read.1
     c.loop-place.invariant.remembers c.in_err-take_in.ensures in
     let back = err_from_is_err_and c.from_residual-in_err-take_in.result c.from_residual-in_err-take_in.ensures.1 in
-    subst (GathersAll chip) (sym (back.1 ∙ ap Err (back.2 ∙ stops.0))) (read.0, stops.1)
+    subst (λ r. GathersAll chip r (rows c.take_in.new.seen)) (sym (back.1 ∙ ap Err (back.2 ∙ stops.0))) (read.0, stops.1)
 
 pub returns-clause-answer : goal.returns-clause-answer
 returns-clause-answer g c =

@@ -4,17 +4,17 @@ use Rattle.lookup.specs.Rows.{rows}
 use Rattle.replay.proofs.Answered.{no_pages, scans_from, some_page}
 use Rattle.replay.proofs.scanning.read_chip.Goals as goal
 
-pub returns-then-is_empty : goal.returns-then-is_empty
-returns-then-is_empty g c =
+pub returns-then-is_empty-clause-answer : goal.returns-then-is_empty-clause-answer
+returns-then-is_empty-clause-answer g c =
     let chip = g.F.ReadFlash.chip c.args.flash.now in
     let few = c.has_few_blocks.ensures.0 c.if-not-has_few_blocks.false in
-    let on = c.in_ok-found.ensures.power (some_page chip _ (g.F.ReadFlash.formed c.args.flash.now) g.F.ReadFlash.sixteen few.0) in
-    let none : length (rows c.in_ok-found.found) ≡ 0 = sym (ap length c.as_slice-seen.ensures) ∙ eqb-true _ 0 (sym c.is_empty.ensures ∙ c.if-is_empty.true) in
-    (few, on, no_pages chip (rows c.in_ok-found.found) none c.in_ok-found.ensures.answer)
+    let on = c.in_ok-gather.ensures.power (some_page chip _ (g.F.ReadFlash.formed c.args.flash.now) g.F.ReadFlash.sixteen few.0) in
+    let none : length (rows c.gather.new.seen) ≡ 0 = sym (ap length c.as_slice-seen.ensures) ∙ eqb-true _ 0 (sym c.is_empty.ensures ∙ c.if-is_empty.true) in
+    (few, on, no_pages chip (rows c.gather.new.seen) none c.in_ok-gather.ensures.answer)
 
-pub returns : goal.returns
-returns g c =
+pub returns-clause-answer : goal.returns-clause-answer
+returns-clause-answer g c =
     let chip = g.F.ReadFlash.chip c.args.flash.now in
     let few = c.has_few_blocks.ensures.0 c.if-not-has_few_blocks.false in
-    let on = c.in_ok-found.ensures.power (some_page chip _ (g.F.ReadFlash.formed c.args.flash.now) g.F.ReadFlash.sixteen few.0) in
+    let on = c.in_ok-gather.ensures.power (some_page chip _ (g.F.ReadFlash.formed c.args.flash.now) g.F.ReadFlash.sixteen few.0) in
     scans_from chip few on c.scan_seen.result c.scan_seen.ensures
