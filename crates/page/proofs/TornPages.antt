@@ -1,7 +1,7 @@
 -- A mixture of old and final bits, where the old or the final ones are all 1, is a page whose bits rose.
-use Rattle.std.proofs.Common.{◌≡◌, ℕ, suc, ◌+◌, ◌-◌, ◌*◌, ◌%◌, ◌^◌, ◌<◌, true, List, [], ◌∷◌, length, get_or, sym, ap, ◌∙◌, subst, arith}
+use Rattle.std.proofs.Common.{◌≡◌, ℕ, zero, suc, ◌+◌, ◌-◌, ◌*◌, ◌%◌, ◌^◌, ◌<◌, ◌⊎◌, true, List, [], ◌∷◌, length, get_or, sym, refl, ap, ◌∙◌, subst, inl, inr, arith}
 use native.Mathlib.Decide.{dec_lt}
-use lib.Bits.{bit_and, bit_xor, and_self, and_comm}
+use lib.Bits.{bit_and, bit_xor, differ, and_self, and_comm}
 use Rattle.std.specs.Int.{bit_at}
 use Rattle.std.proofs.lemmas.Nat.{and_le_l, and_mask}
 use Rattle.std.proofs.lemmas.Nat.Bits.{bit_at-lt, bit_at-zero, bit_at_and, bit_at_ones, bit_at_xor, same_from_bits, same_from_bits_below}
@@ -16,15 +16,25 @@ use Rattle.page.specs.Code.{is_data, Raised, Settled}
 use Rattle.page.specs.Tearing.{TornProgramAddsNone, TornEraseAddsNone}
 use Rattle.page.proofs.Rising.{rising_spoils}
 
+-- bits of 0 and 1 that differ
+pub differ_bit : (a b : ℕ) → a < 2 → b < 2 → ((a ≡ b) × (differ a b ≡ 0)) ⊎ ((a + b ≡ 1) × (differ a b ≡ 1))
+differ_bit zero zero h l = inl (refl, refl)
+differ_bit zero (suc zero) h l = inr (refl, refl)
+differ_bit (suc zero) zero h l = inr (refl, refl)
+differ_bit (suc zero) (suc zero) h l = inl (refl, refl)
+differ_bit (suc (suc a)) b h l = absurd (omega arith)
+differ_bit zero (suc (suc b)) h l = absurd (omega arith)
+differ_bit (suc zero) (suc (suc b)) h l = absurd (omega arith)
+
 -- no difference, no change
-xor_none : (a b : ℕ) → bit_xor a b ≡ 0 → a ≡ b
+pub xor_none : (a b : ℕ) → bit_xor a b ≡ 0 → a ≡ b
 xor_none a b e =
     same_from_bits a b (λ i.
     let none : bit_at (bit_xor a b) i ≡ 0 = ap (λ n. bit_at n i) e ∙ bit_at-zero i in
     omega (arith, bit_at_xor a b i, bit_at-lt a i, bit_at-lt b i))
 
 -- each bit of s is that of x, or 1
-mixed_rose : (k s x : ℕ) → x < 2 ^ k → bit_and (bit_xor s x) (bit_xor s (2 ^ k - 1)) ≡ 0 → bit_and x s ≡ x
+pub mixed_rose : (k s x : ℕ) → x < 2 ^ k → bit_and (bit_xor s x) (bit_xor s (2 ^ k - 1)) ≡ 0 → bit_and x s ≡ x
 mixed_rose k s x lx e =
     same_from_bits_below k (bit_and x s) x (omega (arith, and_le_l x s)) lx (λ i h.
     let ones = 2 ^ k - 1 in

@@ -108,8 +108,10 @@ pub fn decode(bytes: &[u8; PAGE_BYTES]) -> Result<Page, PageFault>
     if !is_data(bytes) {
         return Err(PageFault::NotData);
     }
+    // The content first: a page of no kind has no header worth reading.
+    let content = content_at(bytes)?;
     checked(Page {
         header: header_at(bytes),
-        content: content_at(bytes)?,
+        content,
     })
 }
