@@ -4,7 +4,6 @@ ghost use Rattle.page.specs.Names.{name_text};
 ghost use Rattle.listing.specs.Writes.{Adds};
 
 use crate::pen::Pen;
-use itoa::Buffer;
 use page::Name;
 
 impl Pen<'_> {
@@ -18,13 +17,17 @@ impl Pen<'_> {
         self.end = end;
     }
 
-    // Writes the number without leading zeros.
+    // Writes the number without leading zeros. Not by the kit's `itoa`: a listing's digits would rest on what is proved elsewhere.
     pub(crate) fn put_decimal(&mut self, number: u16)
         requires { self.old.end + length (decimal number) ≤ length self.old.out.now }
         ensures { Adds self.old (decimal number) self.new }
     {
-        let mut digits = Buffer::new();
-        self.put(digits.format(number).as_bytes());
+        if number < 10 {
+            self.put(&[b'0' + number as u8]);
+        } else {
+            self.put_decimal(number / 10);
+            self.put(&[b'0' + (number % 10) as u8]);
+        }
     }
 
     // Writes the last step of a path.
