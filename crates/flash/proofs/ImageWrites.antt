@@ -37,6 +37,12 @@ record Put (xs s : List ℕ) (at len : ℕ) (on within : Bool) (done : Chip) : T
   inside : within ≡ true
   is : image_chip (paste xs at s len) on ≡ done
 
+-- what an operation that went on answers
+pub answer_is : (xs : List ℕ) (fuse : Fuse) (on within : Bool) (cut : FlashFault) → on ≡ true → within ≡ true → answered (image xs on fuse) within cut ≡ cond (blows_at fuse) (Err cut) (Ok tt)
+answer_is xs fuse on within cut up inside =
+    ap (λ b. cond b (cond within (cond (blows_at fuse) (Err cut) (Ok tt)) (Err Range)) (Err Off)) up
+    ∙ ap (λ b. cond b (cond (blows_at fuse) (Err cut) (Ok tt)) (Err Range)) inside
+
 -- the fuse lets only a part of it through where power goes, and `cut` reports that
 module _ {xs s : List ℕ} {at len : ℕ} {on within : Bool} {done : Chip} (p : Put xs s at len on within done) (fuse : Fuse) (cut : FlashFault) where
   abbrev left : List ℕ
@@ -48,8 +54,8 @@ module _ {xs s : List ℕ} {at len : ℕ} {on within : Bool} {done : Chip} (p : 
   abbrev after : Image
   after = image left (cond (blows_at fuse) false on) (burnt_of fuse)
 
-  answer_is : answer ≡ answered (image xs on fuse) within cut
-  answer_is = sym (ap (λ b. cond b (cond within answer (Err Range)) (Err Off)) p.up ∙ ap (λ b. cond b answer (Err Range)) p.inside)
+  answers : answer ≡ answered (image xs on fuse) within cut
+  answers = sym (answer_is xs fuse on within cut p.up p.inside)
 
   after_is : after ≡ left_by (image xs on fuse) within (put (image xs on fuse) at s)
   after_is =
@@ -104,7 +110,7 @@ program_ends xs w p on fuse h wide up {ys} {part} start {n} es en epart =
     let in_pages : p < length (image_chip xs on).pages = omega (arith, image_long xs on) in
     ends q fuse (Program p) (λ r d. Programs (image_chip xs on) p w r d) (λ r j. ProgramsImage (image xs on fuse) p w r j) start
     (λ e. (up, in_pages, whole q fuse (Program p) e)) (up, in_pages, refl, torn q fuse (Program p))
-    (record { answer = answer_is q fuse (Program p); after = after_is q fuse (Program p); unused = unused_is q fuse (Program p) (4096 * image_blocks xs) (omega arith) })
+    (record { answer = answers q fuse (Program p); after = after_is q fuse (Program p); unused = unused_is q fuse (Program p) (4096 * image_blocks xs) (omega arith) })
     es en here
 
 pub erase_ends : (xs : List ℕ) (b : ℕ) (on : Bool) (fuse : Fuse) → b < image_blocks xs → on ≡ true
@@ -119,7 +125,7 @@ erase_ends xs b on fuse h up {ys} {part} start {n} es en epart =
     epart ∙ ap (λ i. replicate i 255) (reached start n es en ∙ en) ∙ sym (take-replicate (reach_of fuse 4096) 4096 255 (reach_within fuse 4096)) in
     ends q fuse (Erase b) (λ r d. Erases (image_chip xs on) b r d) (λ r j. ErasesImage (image xs on fuse) b r j) start
     (λ e. (up, h, whole q fuse (Erase b) e)) (up, h, refl, torn q fuse (Erase b))
-    (record { answer = answer_is q fuse (Erase b); after = after_is q fuse (Erase b); unused = unused_is q fuse (Erase b) (4096 * image_blocks xs) (omega arith) })
+    (record { answer = answers q fuse (Erase b); after = after_is q fuse (Erase b); unused = unused_is q fuse (Erase b) (4096 * image_blocks xs) (omega arith) })
     es en here
   where
     -- the block has the bytes that the step reaches

@@ -56,11 +56,11 @@ left_refused i j within Range a = sym (ap (λ b. cond b (cond within j i) i) a.0
 left_refused i j within (Program q) a = absurd a
 left_refused i j within (Erase q) a = absurd a
 
-program_image_refused : (i : Image) (p : ℕ) (w : List ℕ) (e : FlashFault) → Admits i.on (ltb p (16 * image_blocks i.bytes)) (Err e) → ProgramsImage i p w (Err e) i
+pub program_image_refused : (i : Image) (p : ℕ) (w : List ℕ) (e : FlashFault) → Admits i.on (ltb p (16 * image_blocks i.bytes)) (Err e) → ProgramsImage i p w (Err e) i
 program_image_refused i p w e a =
     record { answer = answer_refused i (ltb p (16 * image_blocks i.bytes)) (Program p) e a; after = left_refused i (put i (256 * p) (cleared (take 256 (drop (256 * p) i.bytes)) w)) (ltb p (16 * image_blocks i.bytes)) e a; unused = refl }
 
-erase_image_refused : (i : Image) (b : ℕ) (e : FlashFault) → Admits i.on (ltb b (image_blocks i.bytes)) (Err e) → ErasesImage i b (Err e) i
+pub erase_image_refused : (i : Image) (b : ℕ) (e : FlashFault) → Admits i.on (ltb b (image_blocks i.bytes)) (Err e) → ErasesImage i b (Err e) i
 erase_image_refused i b e a =
     record { answer = answer_refused i (ltb b (image_blocks i.bytes)) (Erase b) e a; after = left_refused i (put i (4096 * b) (replicate 4096 255)) (ltb b (image_blocks i.bytes)) e a; unused = refl }
 
